@@ -20,7 +20,7 @@ use wc_diag_texts::Format;
 use wc_model::Device;
 use wc_view_decode::{DecodeFault, DecodeFormat, decode as decode_report};
 use wc_view_picture::show_files;
-use wc_view_trace::{Chosen, TraceFormat, trace_files};
+use wc_view_trace::{ScanFilter, TraceFormat, trace_files};
 use wc_view_watch::{UnknownName, WatchChoice, preview_files, watch_files};
 
 /// Writes what is still gathered, and tells how the command ended: the exit status.
@@ -137,8 +137,8 @@ fn refuse_name(
 }
 
 /// The scans that the arguments choose.
-fn scans_of(chosen: ScanChoice) -> Chosen {
-    Chosen {
+fn scans_of(chosen: ScanChoice) -> ScanFilter {
+    ScanFilter {
         at: chosen.at,
         scan: chosen.scan,
         from: chosen.from,
@@ -161,7 +161,7 @@ fn bytes_of(names: Option<&str>) -> Option<&[u8]> {
 
 /// What is written of a run of a log.
 #[derive(Clone, Copy)]
-pub(crate) enum Observed<'a> {
+pub(crate) enum Observation<'a> {
     /// The report: of every scan, or of a number of last ones.
     Scans(Option<u16>),
     /// The values of variables.
@@ -177,22 +177,22 @@ fn observe(
     session: Session<'_>,
     row: &mut RefusedRow,
     inputs: &mut RunInputFiles<'_>,
-    observed: Observed<'_>,
+    observed: Observation<'_>,
 ) -> Result<Ending, UnknownName>
     requires count { IsCounted observed }
 {
     let (alloc, format) = (session.rt.alloc(), trace_format(session.format));
     let mut writer = Device::new(SharedWriter::new(session.gathered));
     let ending = match observed {
-        Observed::Watched(choice) => return watch_files(alloc, choice, inputs, &mut writer, row),
-        Observed::Drawn(names) => {
+        Observation::Watched(choice) => return watch_files(alloc, choice, inputs, &mut writer, row),
+        Observation::Drawn(names) => {
             return show_files(alloc, bytes_of(names), inputs, &mut writer, row);
         }
-        Observed::Traced(chosen) => {
+        Observation::Traced(chosen) => {
             trace_files(alloc, scans_of(chosen), format, inputs, &mut writer, row)
         }
-        Observed::Scans(Some(last)) => last_files(alloc, last, inputs, &mut writer, row),
-        Observed::Scans(None) => report_files(alloc, inputs, &mut writer, row),
+        Observation::Scans(Some(last)) => last_files(alloc, last, inputs, &mut writer, row),
+        Observation::Scans(None) => report_files(alloc, inputs, &mut writer, row),
     };
     Ok(ending)
 }
@@ -202,15 +202,15 @@ pub(crate) fn observe_log(
     session: Session<'_>,
     row: &mut RefusedRow,
     paths: RunPaths<'_>,
-    observed: Observed<'_>,
+    observed: Observation<'_>,
 ) -> u8
     requires asked { Observes session paths observed }
     requires count { IsCounted observed }
 {
     let mut opened = RunFiles::new(session, paths);
     let list = match observed {
-        Observed::Watched(choice) => choice.names,
-        Observed::Drawn(names) => bytes_of(names).unwrap_or(b""),
+        Observation::Watched(choice) => choice.names,
+        Observation::Drawn(names) => bytes_of(names).unwrap_or(b""),
         _ => b"",
     };
     let status = match observe(session, row, &mut opened.inputs, observed) {
@@ -218,7 +218,11 @@ pub(crate) fn observe_log(
         Err(unknown) => refuse_name(session, list, unknown, &opened.sources(), row),
     };
     match observed {
-        Observed::Traced(_) | Observed::Drawn(_) => with_notes(session, status, &opened.sources()),
+        Observation::Traced(_) | Observation::Drawn(_) => with_notes(
+            session,
+            status,
+            &opened.sources(),
+        ),
         _ => status,
     }
 }

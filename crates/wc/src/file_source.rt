@@ -1,6 +1,6 @@
 ghost use Rattle.std.specs.Io.{ReadsAtMost};
 
-use crate::output::{Gathered, empty_first};
+use crate::output::{StandardOutput, empty_first};
 use crate::session::Session;
 use std::cell::RefCell;
 use std::fs::File;
@@ -13,7 +13,7 @@ use wc_devices::{open_again, read_again};
 #[derive(Drop)]
 pub(crate) struct FileSource<'a> {
     rt: &'a HostRuntime,
-    gathered: &'a RefCell<Gathered>,
+    gathered: &'a RefCell<StandardOutput>,
     path: &'a str,
     file: Option<File>,
     cause: Option<io::Error>,

@@ -16,7 +16,7 @@ mod session;
 use clap::Error;
 use clap::error::ErrorKind;
 use commands::{
-    CheckedPaths, Observed, check_programs, cut_log, decode_lines, observe_log, run_job,
+    CheckedPaths, Observation, check_programs, cut_log, decode_lines, observe_log, run_job,
 };
 use files::RunPaths;
 use output::shared_output;
@@ -26,9 +26,9 @@ use std::fs::metadata;
 use std::io::Write;
 use std::process::ExitCode;
 use std::{env, io};
-use wc_arguments::{Wanted, read_words};
+use wc_arguments::{Invocation, read_words};
 use wc_controller::RefusedRow;
-use wc_diag_messages::{page_of, shown, warning_page};
+use wc_diag_messages::{page_of, shown_text, warning_page};
 use wc_view_watch::WatchChoice;
 
 /// The exit status if the arguments are wrong.
@@ -54,7 +54,7 @@ fn end_without_words(rt: &HostRuntime, error: &io::Error) -> u8 {
 
 /// Writes text on standard error, without the control characters that it may have.
 fn write_shown(rt: &HostRuntime, text: &str) -> io::Result<()> {
-    let text = shown(rt.alloc(), text.as_bytes())?;
+    let text = shown_text(rt.alloc(), text.as_bytes())?;
     rt.stderr().write_all(text.as_bytes())
 }
 
@@ -200,27 +200,27 @@ fn show_page(session: Session<'_>, number: &str) -> u8
 }
 
 /// Does what the arguments ask for: the exit status.
-fn execute(session: Session<'_>, row: &mut RefusedRow, wanted: Wanted<'_>) -> u8
+fn execute(session: Session<'_>, row: &mut RefusedRow, wanted: Invocation<'_>) -> u8
     requires asked { Asks session (view wanted) }
 {
     match wanted {
-        Wanted::Job => run_job(session, row),
-        Wanted::Check {
+        Invocation::Job => run_job(session, row),
+        Invocation::Check {
             program,
             next,
             paths,
             deny,
         } => check_programs(session, row, CheckedPaths { program, next }, paths, deny),
-        Wanted::Run {
+        Invocation::Run {
             last: Some(number),
             ..
         } if number < 1 || number > 1000 => WRONG_WORDS,
-        Wanted::Run {
+        Invocation::Run {
             watch: None,
             changes: true,
             ..
         } => WRONG_WORDS,
-        Wanted::Run {
+        Invocation::Run {
             plate,
             files,
             last,
@@ -236,20 +236,20 @@ fn execute(session: Session<'_>, row: &mut RefusedRow, wanted: Wanted<'_>) -> u8
                         last,
                         changes,
                     };
-                    observe_log(session, row, paths, Observed::Watched(choice))
+                    observe_log(session, row, paths, Observation::Watched(choice))
                 }
-                None => observe_log(session, row, paths, Observed::Scans(last)),
+                None => observe_log(session, row, paths, Observation::Scans(last)),
             }
         }
-        Wanted::Trace {
+        Invocation::Trace {
             plate,
             files,
             chosen,
         } => {
             let paths = RunPaths::with_program(plate, files);
-            observe_log(session, row, paths, Observed::Traced(chosen))
+            observe_log(session, row, paths, Observation::Traced(chosen))
         }
-        Wanted::Show {
+        Invocation::Show {
             plate,
             program,
             next,
@@ -262,15 +262,15 @@ fn execute(session: Session<'_>, row: &mut RefusedRow, wanted: Wanted<'_>) -> u8
                 next,
                 log,
             };
-            observe_log(session, row, paths, Observed::Drawn(watch))
+            observe_log(session, row, paths, Observation::Drawn(watch))
         }
-        Wanted::Decode { table } => decode_lines(session, row, table),
-        Wanted::Explain { number } => show_page(session, number),
-        Wanted::Line { plate, log } => {
+        Invocation::Decode { table } => decode_lines(session, row, table),
+        Invocation::Explain { number } => show_page(session, number),
+        Invocation::Line { plate, log } => {
             let paths = RunPaths::alone(plate, log);
-            observe_log(session, row, paths, Observed::Scans(None))
+            observe_log(session, row, paths, Observation::Scans(None))
         }
-        Wanted::Cut { plate, log, at } => cut_log(session, row, at, plate, log),
+        Invocation::Cut { plate, log, at } => cut_log(session, row, at, plate, log),
     }
 }
 

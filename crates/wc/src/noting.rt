@@ -13,7 +13,7 @@ use wc_reader::read;
 use wc_view_changes::notes;
 
 /// What was made of a text, if it is accepted. The error is out of memory.
-fn accepted<T>(made: Result<T, Fault>) -> io::Result<Option<T>> {
+fn if_accepted<T>(made: Result<T, Fault>) -> io::Result<Option<T>> {
     match made {
         Ok(made) => Ok(Some(made)),
         Err(Fault::Memory) => Err(AllocError.into()),
@@ -28,13 +28,13 @@ fn report_notes(session: Session<'_>, files: &Sources<'_>) -> io::Result<()> {
         return Ok(());
     };
     let alloc = session.rt.alloc();
-    let old = accepted(load(alloc, old.text))?;
-    let new = accepted(load(alloc, new.text))?;
+    let old = if_accepted(load(alloc, old.text))?;
+    let new = if_accepted(load(alloc, new.text))?;
     let (Some(old), Some(new)) = (old, new) else {
         return Ok(());
     };
     let as_objects = matches!(session.format, Format::Json);
-    match accepted(notes(alloc, as_objects, &old, &new))? {
+    match if_accepted(notes(alloc, as_objects, &old, &new))? {
         Some(lines) => session.rt.stderr().write_all(&lines),
         None => Ok(()),
     }
@@ -63,7 +63,7 @@ fn write_warnings(
 ) -> io::Result<()> {
     let (alloc, format, name) = (session.rt.alloc(), session.format, file.path.as_bytes());
     // An accepted text has tokens.
-    let Some(tokens) = accepted(tokens(alloc, file.bytes))? else {
+    let Some(tokens) = if_accepted(tokens(alloc, file.bytes))? else {
         return Ok(());
     };
     for warning in warnings.iter().take(MOST_WARNINGS) {
@@ -81,10 +81,10 @@ fn write_warnings(
 /// Prints what is suspicious of a program that is accepted: whether anything is. The error is out of memory.
 fn report_warnings(session: Session<'_>, file: &ReadFile<'_>) -> io::Result<bool> {
     let alloc = session.rt.alloc();
-    let Some(source) = accepted(read(alloc, file.bytes))? else {
+    let Some(source) = if_accepted(read(alloc, file.bytes))? else {
         return Ok(false);
     };
-    let warnings = match accepted(find_warnings(alloc, &source))? {
+    let warnings = match if_accepted(find_warnings(alloc, &source))? {
         Some(warnings) if !warnings.is_empty() => warnings,
         _ => return Ok(false),
     };

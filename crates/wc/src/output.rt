@@ -8,11 +8,11 @@ use wc_devices::{OutputBuffer, Retry};
 const CHUNK: usize = 65536;
 
 /// Standard output, and what is gathered for it.
-pub(crate) type Gathered = OutputBuffer<Retry<Stdout>>;
+pub(crate) type StandardOutput = OutputBuffer<Retry<Stdout>>;
 
 /// Standard output, for which nothing is gathered yet. It is shared by the writer that gathers and by the readers that
 /// have it emptied.
-pub(crate) fn shared_output(rt: &HostRuntime) -> Result<RefCell<Gathered>, AllocError> {
+pub(crate) fn shared_output(rt: &HostRuntime) -> Result<RefCell<StandardOutput>, AllocError> {
     let gathered = OutputBuffer::new(rt.alloc(), Retry::new(rt.stdout()), CHUNK)?;
     Ok(RefCell::new(gathered))
 }
@@ -20,12 +20,12 @@ pub(crate) fn shared_output(rt: &HostRuntime) -> Result<RefCell<Gathered>, Alloc
 /// A writer to what is shared.
 #[derive(Drop)]
 pub(crate) struct SharedWriter<'a> {
-    gathered: &'a RefCell<Gathered>,
+    gathered: &'a RefCell<StandardOutput>,
 }
 
 impl<'a> SharedWriter<'a> {
     /// A writer to what is gathered.
-    pub(crate) fn new(gathered: &'a RefCell<Gathered>) -> SharedWriter<'a> {
+    pub(crate) fn new(gathered: &'a RefCell<StandardOutput>) -> SharedWriter<'a> {
         SharedWriter { gathered }
     }
 }
@@ -45,13 +45,13 @@ impl Write for SharedWriter<'_> {
 /// A reader before each of whose reads what is gathered is written, so that no line waits for more input.
 #[derive(Drop)]
 pub(crate) struct FlushBeforeRead<'a, D> {
-    gathered: &'a RefCell<Gathered>,
+    gathered: &'a RefCell<StandardOutput>,
     inner: D,
 }
 
 impl<'a, D> FlushBeforeRead<'a, D> {
     /// A reader of the same bytes.
-    pub(crate) fn new(gathered: &'a RefCell<Gathered>, inner: D) -> FlushBeforeRead<'a, D> {
+    pub(crate) fn new(gathered: &'a RefCell<StandardOutput>, inner: D) -> FlushBeforeRead<'a, D> {
         FlushBeforeRead { gathered, inner }
     }
 
@@ -62,7 +62,7 @@ impl<'a, D> FlushBeforeRead<'a, D> {
 }
 
 /// Writes what is gathered.
-pub(crate) fn empty_first(gathered: &RefCell<Gathered>) -> io::Result<()> {
+pub(crate) fn empty_first(gathered: &RefCell<StandardOutput>) -> io::Result<()> {
     let mut gathered = gathered.try_borrow_mut()?;
     gathered.empty()
 }

@@ -5,7 +5,8 @@ use std::io::Write;
 use wc_controller::{Ending, Input, RefusedRow};
 use wc_diag_further::{Found, Further, LineFault};
 use wc_diag_messages::{
-    Evidence, JobSection, Refusal, Severity, explained, left_out_message, section_of, shown,
+    Evidence, JobSection, Refusal, Severity, left_out_message, refusal_message, section_of,
+    shown_text,
 };
 use wc_view_watch::UnknownName;
 
@@ -159,7 +160,7 @@ fn further_message(
         evidence: Evidence::Text(text),
         ..*refusal
     };
-    explained(session.rt.alloc(), session.format, &further)
+    refusal_message(session.rt.alloc(), session.format, &further)
 }
 
 /// The number of further refusals that are printed at most.
@@ -222,7 +223,7 @@ fn report_read_fault(
     cause: Option<io::Error>,
 ) -> io::Result<()> {
     let name = sources.path(input).unwrap_or(section(input));
-    let name = shown(rt.alloc(), name.as_bytes())?;
+    let name = shown_text(rt.alloc(), name.as_bytes())?;
     let name = str::from_utf8(name.as_bytes()).unwrap_or("the input");
     let is_missing = cause.is_some_and(|error| error.kind() == io::ErrorKind::NotFound);
     if is_missing {
@@ -266,7 +267,7 @@ pub(crate) fn report(
             place,
         } => {
             let refusal = refusal_of(sources, row, input, LineFault { number, place });
-            let message = explained(session.rt.alloc(), session.format, &refusal)?;
+            let message = refusal_message(session.rt.alloc(), session.format, &refusal)?;
             session.rt.stderr().write_all(&message)?;
             list_further(session, sources, &refusal);
             Ok(())

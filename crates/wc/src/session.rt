@@ -1,4 +1,4 @@
-use crate::output::Gathered;
+use crate::output::StandardOutput;
 use std::cell::RefCell;
 use wc_diag_texts::Format;
 
@@ -8,6 +8,6 @@ use wc_diag_texts::Format;
 pub(crate) struct Session<'a> {
     pub(crate) rt: &'a HostRuntime,
     pub(crate) format: Format,
-    pub(crate) gathered: &'a RefCell<Gathered>,
+    pub(crate) gathered: &'a RefCell<StandardOutput>,
     pub(crate) words: &'a [String],
 }

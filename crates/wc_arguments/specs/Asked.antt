@@ -18,8 +18,8 @@ use Rattle.wc_diag_texts.specs.declared.format.Format.TheVariants.{Long, Short, 
 use Rattle.clap.specs.ValueTests.{accepts}
 use Rattle.clap.specs.declared.builder.value_parser.ValueParser.TheVariants.{Unsigned}
 use Rattle.wc_arguments.specs.CommandLine.{command_line}
-use Rattle.wc_arguments.specs.declared.words.Wanted.{Wanted}
-use Rattle.wc_arguments.specs.declared.words.Wanted.TheVariants as wanted
+use Rattle.wc_arguments.specs.declared.words.Invocation.{Invocation}
+use Rattle.wc_arguments.specs.declared.words.Invocation.TheVariants as wanted
 
 -- the arguments as texts
 abbrev pub texts_of : List (String Global) → List Text
@@ -114,7 +114,7 @@ abbrev pub asked : List Text → Asked
 asked words = asked_by (subcommand_of command_line words)
 
 -- a command of the code as what is asked for
-abbrev pub view : Wanted → Asked
+abbrev pub view : Invocation → Asked
 view wanted.Job = job
 view (wanted.Check program next paths deny) =
     check program.now (option_map (λ path. path.now) next) paths deny

@@ -12,8 +12,8 @@ abbrev pub place : Text → Rule
 place name = record (new_rule name) { value_names = 1; required = true }
 
 -- a value
-abbrev pub valued : Text → Rule
-valued name = record (new_rule name) { value_names = 1 }
+abbrev pub value_argument : Text → Rule
+value_argument name = record (new_rule name) { value_names = 1 }
 
 -- `--NAME FILE`, which must be given
 abbrev pub file_option : Text → Rule

@@ -9,4 +9,4 @@ mod words;
 
 pub use formats::plain_formats;
 pub use scan_choice::ScanChoice;
-pub use words::{AskedCommand, ProgramFiles, Wanted, read_words};
+pub use words::{AskedCommand, Invocation, ProgramFiles, read_words};

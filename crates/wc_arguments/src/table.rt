@@ -1,6 +1,6 @@
 ghost use Rattle.std.specs.Prelude.{◌≡◌, IfOk, false};
 ghost use Rattle.clap.specs.Words.{App, rule_of};
-ghost use Rattle.wc_arguments.specs.CommandLine.{Takes, valued};
+ghost use Rattle.wc_arguments.specs.CommandLine.{Takes, value_argument};
 ghost use Rattle.wc_arguments.specs.Table.{row_rule, with_options, with_words, word_of};
 
 use clap::{Arg, ArgAction, Command, value_parser};
@@ -40,8 +40,8 @@ pub(crate) struct WordRow<'a> {
 }
 
 /// An argument that has a value.
-fn valued<'a>(alloc: Global, row: &OptionRow<'a>, value: &'a str) -> Arg<'a>
-    ensures rule { rule_of result ≡ valued row.now.name.now }
+fn value_argument<'a>(alloc: Global, row: &OptionRow<'a>, value: &'a str) -> Arg<'a>
+    ensures rule { rule_of result ≡ value_argument row.now.name.now }
     ensures local { result.global ≡ false }
 {
     Arg::new(alloc, row.name).value_name(value).help(row.help)
@@ -53,13 +53,15 @@ fn argument<'a>(alloc: Global, row: &OptionRow<'a>) -> Arg<'a>
     ensures local { result.global ≡ false }
 {
     match row.kind {
-        OptionKind::Place(value) => valued(alloc, row, value).required(true),
-        OptionKind::File(value) => valued(alloc, row, value).long(row.name).required(true),
-        OptionKind::Value(value) => valued(alloc, row, value).long(row.name),
-        OptionKind::Scans(value) => valued(alloc, row, value)
+        OptionKind::Place(value) => value_argument(alloc, row, value).required(true),
+        OptionKind::File(value) => value_argument(alloc, row, value)
+            .long(row.name)
+            .required(true),
+        OptionKind::Value(value) => value_argument(alloc, row, value).long(row.name),
+        OptionKind::Scans(value) => value_argument(alloc, row, value)
             .long(row.name)
             .value_parser(value_parser!(u16).range(1..=1000)),
-        OptionKind::WideNumber(value) => valued(alloc, row, value)
+        OptionKind::WideNumber(value) => value_argument(alloc, row, value)
             .long(row.name)
             .value_parser(value_parser!(u64)),
         OptionKind::Flag => Arg::new(alloc, row.name)

@@ -24,7 +24,7 @@ pub struct ProgramFiles<'a> {
 
 /// What the arguments of the command line ask for. Each text is the path of a file.
 #[derive(Clone, Copy)]
-pub enum Wanted<'a> {
+pub enum Invocation<'a> {
     /// No arguments: a job from standard input.
     Job,
     /// The cost of each unit of a program, and its worst path if `paths` says so; with a next program that one's, and
@@ -83,7 +83,7 @@ pub enum Wanted<'a> {
 /// What the arguments ask for, and the format of a refusal's message.
 #[derive(Clone, Copy)]
 pub struct AskedCommand<'a> {
-    pub wanted: Wanted<'a>,
+    pub wanted: Invocation<'a>,
     pub format: Format,
 }
 
@@ -179,56 +179,56 @@ fn chosen_scans(matches: &ArgMatches<'_>) -> ScanChoice
 }
 
 /// What a word asks for.
-fn wanted_by<'a>(word: &str, matches: &ArgMatches<'a>) -> Wanted<'a>
+fn wanted_by<'a>(word: &str, matches: &ArgMatches<'a>) -> Invocation<'a>
     ensures { view result ≡ asked_at word.now (rows_of (found_of matches.now)) }
 {
     match word {
-        "check" => Wanted::Check {
+        "check" => Invocation::Check {
             program: file(matches, "program"),
             next: optional_file(matches, "next"),
             paths: is_given(matches, "path"),
             deny: is_given(matches, "deny-warnings"),
         },
-        "run" => Wanted::Run {
+        "run" => Invocation::Run {
             plate: file(matches, "plate"),
             files: program_files(matches),
             last: number(matches, "last"),
             watch: optional_file(matches, "watch"),
             changes: is_given(matches, "changes"),
         },
-        "trace" => Wanted::Trace {
+        "trace" => Invocation::Trace {
             plate: file(matches, "plate"),
             files: program_files(matches),
             chosen: chosen_scans(matches),
         },
-        "show" => Wanted::Show {
+        "show" => Invocation::Show {
             plate: file(matches, "plate"),
             program: optional_file(matches, "program"),
             next: optional_file(matches, "next"),
             log: file(matches, "log"),
             watch: optional_file(matches, "watch"),
         },
-        "decode" => Wanted::Decode {
+        "decode" => Invocation::Decode {
             table: is_given(matches, "csv"),
         },
-        "explain" => Wanted::Explain {
+        "explain" => Invocation::Explain {
             number: file(matches, "number"),
         },
-        "line" => Wanted::Line {
+        "line" => Invocation::Line {
             plate: file(matches, "plate"),
             log: file(matches, "log"),
         },
-        "cut" => Wanted::Cut {
+        "cut" => Invocation::Cut {
             plate: file(matches, "plate"),
             log: file(matches, "log"),
             at: wide_number(matches, "at"),
         },
-        _ => Wanted::Job,
+        _ => Invocation::Job,
     }
 }
 
 /// What is asked for, and the text of the format that is given after the word, or else before it.
-fn asked_in<'a>(matches: &ArgMatches<'a>) -> (Wanted<'a>, Option<&'a str>)
+fn asked_in<'a>(matches: &ArgMatches<'a>) -> (Invocation<'a>, Option<&'a str>)
     ensures asked { view result.0 ≡ asked_by (subcommand_rows_of matches.now) }
     ensures format { option_map (λ text. text.now) result.1
         ≡ format_in (subcommand_rows_of matches.now) (rows_of (found_of matches.now)) }
@@ -236,7 +236,7 @@ fn asked_in<'a>(matches: &ArgMatches<'a>) -> (Wanted<'a>, Option<&'a str>)
     let before = matches.get_str("message");
     match matches.subcommand() {
         Some((word, inner)) => (wanted_by(word, inner), inner.get_str("message").or(before)),
-        None => (Wanted::Job, before),
+        None => (Invocation::Job, before),
     }
 }
 
@@ -271,27 +271,27 @@ fn commas(list: &[u8]) -> usize
 }
 
 /// What is wrong with the options together, if anything is, and the kind of that fault.
-fn misused(wanted: &Wanted<'_>) -> Option<(ErrorKind, &'static str)>
+fn usage_fault(wanted: &Invocation<'_>) -> Option<(ErrorKind, &'static str)>
     ensures { option_to_list (option_map (λ fault. fault.0) result) ≡ faults_of (view wanted.now) }
 {
     let lacking = ErrorKind::MissingRequiredArgument;
     match wanted {
-        Wanted::Show {
+        Invocation::Show {
             program: None,
             next: Some(_),
             ..
         } => Some((lacking, NEXT_ALONE)),
-        Wanted::Show {
+        Invocation::Show {
             program: None,
             watch: Some(_),
             ..
         } => Some((lacking, WATCH_ALONE)),
-        Wanted::Run {
+        Invocation::Run {
             watch: None,
             changes: true,
             ..
         } => Some((lacking, CHANGES_ALONE)),
-        Wanted::Show {
+        Invocation::Show {
             watch: Some(names),
             ..
         } if commas(names.as_bytes()) > 3 => Some((ErrorKind::InvalidValue, MANY_NAMES)),
@@ -304,7 +304,7 @@ fn misused(wanted: &Wanted<'_>) -> Option<(ErrorKind, &'static str)>
 fn read_by<'a>(
     line: &mut Command<'a>,
     words: &'a [String],
-) -> Result<(Wanted<'a>, Option<Format>), Error>
+) -> Result<(Invocation<'a>, Option<Format>), Error>
     requires { app_of line.old ≡ command_line }
     ensures asked { IfOk result (λ read. view read.0 ≡ asked (texts_of words.now)) }
     ensures format { IfOk result (λ read. read.1 ≡ format_asked (texts_of words.now)) }
@@ -332,7 +332,7 @@ fn asked_by<'a>(line: &mut Command<'a>, words: &'a [String]) -> Result<AskedComm
         Err(error) => return Err(error),
     };
     match format {
-        Some(format) => match misused(&wanted) {
+        Some(format) => match usage_fault(&wanted) {
             Some((kind, what)) => Err(line.error(kind, what)?),
             None => Ok(AskedCommand { wanted, format }),
         },

@@ -8,7 +8,7 @@ use Rattle.wc_model.specs.declared.kind.Kind.TheVariants as kinds
 use Rattle.wc_model.specs.declared.operator.Condition.TheVariants.{Always, IfTrue, IfFalse}
 use Rattle.wc_model.specs.declared.operator.Operator.{Operator}
 use Rattle.wc_model.specs.declared.operator.Operator.TheVariants as operators
-use Rattle.wc_model.specs.declared.operator.Storing.TheVariants as storings
+use Rattle.wc_model.specs.declared.operator.StoreKind.TheVariants as storings
 use Rattle.wc_model.specs.declared.source.Section.TheVariants as sections
 use Rattle.wc_model.specs.declared.source.UnitKind.TheVariants as units
 use Rattle.wc_built_in.specs.declared.keyword.Keyword.{Keyword}

@@ -1,4 +1,4 @@
-use wc_model::{Condition, Kind, Operator, Section, StandardBlock, Storing, UnitKind};
+use wc_model::{Condition, Kind, Operator, Section, StandardBlock, StoreKind, UnitKind};
 
 /// What a reserved word represents (IEC 61131-3:2003, tables 10, 51, 52 and C.2).
 #[derive(Clone, Copy)]
@@ -6,7 +6,7 @@ pub enum Keyword {
     /// LD, or LDN if negated.
     Load(bool),
     /// ST, STN, S, R.
-    Store(Storing),
+    Store(StoreKind),
     /// An operator that a parenthesis may defer.
     Apply(Operator),
     Not,

@@ -3,7 +3,7 @@ ghost use Rattle.wc_model.specs.Definitions.{named_in, name_of};
 ghost use Rattle.wc_built_in.specs.Keywords.{keyword_row, keywords, longer_than, of_length};
 
 use crate::keyword::Keyword;
-use wc_model::{Condition, Kind, Operator, Section, StandardBlock, Storing, UnitKind, is_word};
+use wc_model::{Condition, Kind, Operator, Section, StandardBlock, StoreKind, UnitKind, is_word};
 
 // Reserved words for which others look too, in small letters.
 pub const TRUE: &[u8] = b"true";
@@ -37,8 +37,8 @@ fn words_of_one_letter() -> &'static [KeywordRow]
     ensures { map keyword_row result.now ≡ of_length 1 keywords }
 {
     words! {
-        b"s" Keyword::Store(Storing::Set);
-        b"r" Keyword::Store(Storing::Reset);
+        b"s" Keyword::Store(StoreKind::Set);
+        b"r" Keyword::Store(StoreKind::Reset);
     }
 }
 
@@ -48,7 +48,7 @@ fn words_of_two_letters() -> &'static [KeywordRow]
 {
     words! {
         b"ld" Keyword::Load(false);
-        b"st" Keyword::Store(Storing::Result);
+        b"st" Keyword::Store(StoreKind::Result);
         b"or" Keyword::Apply(Operator::Or);
         b"gt" Keyword::Apply(Operator::Gt);
         b"ge" Keyword::Apply(Operator::Ge);
@@ -72,7 +72,7 @@ fn words_of_three_letters() -> &'static [KeywordRow]
         b"orn" Keyword::Apply(Operator::Orn);
         b"xor" Keyword::Apply(Operator::Xor);
         b"ldn" Keyword::Load(true);
-        b"stn" Keyword::Store(Storing::Negation);
+        b"stn" Keyword::Store(StoreKind::Negation);
         b"not" Keyword::Not;
         b"add" Keyword::Apply(Operator::Add);
         b"sub" Keyword::Apply(Operator::Sub);

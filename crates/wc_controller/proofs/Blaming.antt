@@ -11,7 +11,7 @@ use Rattle.wc_controller.specs.declared.ending.Ending.{Ending}
 use Rattle.wc_controller.specs.declared.ending.Ending.TheVariants as ended
 use Rattle.wc_job.specs.declared.input.Input.{Input}
 use Rattle.wc_job.specs.declared.input.Input.TheVariants as input
-use Rattle.wc_controller.specs.declared.ending.Stopped.{Stopped}
+use Rattle.wc_controller.specs.declared.ending.InputFault.{InputFault}
 use Rattle.wc_job.specs.Views.{IsWhole}
 use Rattle.wc_model.specs.Definitions.{longest_job, PlateData, Text, LogOf, Record, log_of, log_for, Logic, first_logic}
 use Rattle.wc_record.specs.{records_of, records_read}
@@ -44,7 +44,7 @@ text_in_file bytes (Refused number place) short h = inr (short, h)
 text_in_file bytes why short h = tt
 
 -- a program that was read whole
-pub program_read : {X : Type 0} (at : Input) (result : Result X Stopped) (known : Option (List ℕ)) (bytes : List ℕ) → IsWhole known bytes
+pub program_read : {X : Type 0} (at : Input) (result : Result X InputFault) (known : Option (List ℕ)) (bytes : List ℕ) → IsWhole known bytes
     → IfErr result (λ stopped. stopped.input ≡ at → RefusesText bytes stopped.fault) → StopsFor at RefusesProgram known result
 program_read at (Ok done) known bytes is h = tt
 program_read at (Err stopped) None bytes is h = λ e. tt
@@ -90,7 +90,7 @@ of_fault input at (Refused number place) refuses known ending old new k h = of_r
 of_fault input at why refuses known ending old new k h = subst (λ e. Blames input refuses known e) (sym k.0) tt
 
 -- an ending says of an input what stopped there
-pub blamed : {X : Type 0} (input : Input) (refuses : List ℕ → RunFault → Type 0) (known : Option (List ℕ)) (result : Result X Stopped) (ending : Ending) (old new : Option (List ℕ))
+pub blamed : {X : Type 0} (input : Input) (refuses : List ℕ → RunFault → Type 0) (known : Option (List ℕ)) (result : Result X InputFault) (ending : Ending) (old new : Option (List ℕ))
     → EndsAfter result ending old new → StopsFor input refuses known result → Blames input refuses known ending
 blamed input refuses known (Ok done) ending old new k h = subst (λ e. Blames input refuses known e) (sym k.0) tt
 blamed input refuses known (Err stopped) ending old new k h = of_fault input stopped.input stopped.fault refuses known ending old new k h

@@ -6,7 +6,7 @@ use Rattle.wc_controller.specs.declared.ending.Ending.{Ending}
 use Rattle.wc_controller.specs.declared.ending.Ending.TheVariants as ended
 use Rattle.wc_job.specs.declared.input.Input.{Input}
 use Rattle.wc_job.specs.declared.input.Input.TheVariants as input
-use Rattle.wc_controller.specs.declared.ending.Stopped.{Stopped}
+use Rattle.wc_controller.specs.declared.ending.InputFault.{InputFault}
 use Rattle.wc_model.specs.Definitions.{plate_of, IsRefused, Sections, Record}
 use Rattle.wc_model.specs.declared.fault.Fault.{Fault}
 use Rattle.wc_model.specs.declared.fault.Fault.TheVariants as fault
@@ -59,7 +59,7 @@ of_fault reported parts at (Refused number place) ending old new k h = of_refusa
 of_fault reported parts at why ending old new k h = subst (λ e. BlamesPart reported parts e) (sym k.0) tt
 
 -- an ending says of a part of a job what stopped there
-pub blamed_part : {X : Type 0} (reported : Record) (parts : Result Sections ℕ) (result : Result X Stopped) (ending : Ending) (old new : Option (List ℕ))
+pub blamed_part : {X : Type 0} (reported : Record) (parts : Result Sections ℕ) (result : Result X InputFault) (ending : Ending) (old new : Option (List ℕ))
     → EndsAfter result ending old new → StopsForPart reported parts result → BlamesPart reported parts ending
 blamed_part reported parts (Ok done) ending old new k h = subst (λ e. BlamesPart reported parts e) (sym k.0) tt
 blamed_part reported parts (Err stopped) ending old new k h = of_fault reported parts stopped.input stopped.fault ending old new k h

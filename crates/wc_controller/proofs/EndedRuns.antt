@@ -9,7 +9,7 @@ use Rattle.wc_controller.specs.declared.ending.Ending.{Ending}
 use Rattle.wc_controller.specs.declared.ending.Ending.TheVariants as ended
 use Rattle.wc_job.specs.declared.input.Input.{Input}
 use Rattle.wc_job.specs.declared.input.Input.TheVariants as input
-use Rattle.wc_controller.specs.declared.ending.Stopped.{Stopped}
+use Rattle.wc_controller.specs.declared.ending.InputFault.{InputFault}
 use Rattle.wc_model.specs.Run.Log.{Record}
 use Rattle.wc_run.specs.declared.fault.RunFault.{RunFault}
 use Rattle.wc_run.specs.declared.fault.RunFault.TheVariants.{Refused, Read, Write, Memory}
@@ -21,7 +21,7 @@ fault_ended at Read ending old new k = inl k.0
 fault_ended at Write ending old new k = inl k.0
 fault_ended at Memory ending old new k = inl k.0
 
-ended_by : (answer : Result (Unit {0}) Stopped) (ending : Ending) (old new : Option (List ℕ)) → EndsAfter answer ending old new → IsEndedBy (ending_of answer) ending
+ended_by : (answer : Result (Unit {0}) InputFault) (ending : Ending) (old new : Option (List ℕ)) → EndsAfter answer ending old new → IsEndedBy (ending_of answer) ending
 ended_by (Ok done) ending old new k = inl k.0
 ended_by (Err stopped) ending old new k = fault_ended stopped.input stopped.fault ending old new k
 
@@ -33,7 +33,7 @@ fault_stays at other Read ending old new k e = k.0 ∙ e
 fault_stays at other Write ending old new k e = k.0 ∙ e
 fault_stays at other Memory ending old new k e = k.0 ∙ e
 
-read_stays : (answer : Result (Unit {0}) Stopped) (other : Input) (ending : Ending) (old new : Option (List ℕ)) → EndsAfter answer ending old new
+read_stays : (answer : Result (Unit {0}) InputFault) (other : Input) (ending : Ending) (old new : Option (List ℕ)) → EndsAfter answer ending old new
     → ending_of answer ≡ ended.ReadFault other → ending ≡ ended.ReadFault other
 read_stays (Ok done) other ending old new k e = k.0 ∙ e
 read_stays (Err stopped) other ending old new k e = fault_stays stopped.input other stopped.fault ending old new k e
@@ -45,7 +45,7 @@ read_came other ran ending by e = came by where
   came (inl same) = sym same ∙ e
   came (inr faulty) = absurd (faulty_untold other ending faulty e)
 
-reads_ended : (answer : Result (Unit {0}) Stopped) (other : Input) (ending : Ending) (old new : Option (List ℕ)) (before after : ℕ) → EndsAfter answer ending old new
+reads_ended : (answer : Result (Unit {0}) InputFault) (other : Input) (ending : Ending) (old new : Option (List ℕ)) (before after : ℕ) → EndsAfter answer ending old new
     → ReportsReadEndings other (ending_of answer) before after → ReportsReadEndings other ending before after
 reads_ended answer other ending old new before after k h =
     (λ e. h.0 (read_came other (ending_of answer) ending (ended_by answer ending old new k) e), λ no. h.1 (λ e. no (read_stays answer other ending old new k e)))
@@ -65,13 +65,13 @@ module _ (before after : InputStates) (reported : Record) where
   memory_after at Write ending old new k h memory e = absurd (omega (arith, ap status_of (sym k.0 ∙ e)))
   memory_after at Memory ending old new k h memory e = memory refl
 
-  memory_ended : (answer : Result (Unit {0}) Stopped) (ending : Ending) (old new : Option (List ℕ)) → EndsAfter answer ending old new
+  memory_ended : (answer : Result (Unit {0}) InputFault) (ending : Ending) (old new : Option (List ℕ)) → EndsAfter answer ending old new
       → ReadsInOrder before after reported (ending_of answer) → (ending_of answer ≡ ended.NoMemory → ReportsLog) → ending ≡ ended.NoMemory → ReportsLog
   memory_ended (Ok done) ending old new k h memory e = absurd (omega (arith, ap status_of (sym k.0 ∙ e)))
   memory_ended (Err stopped) ending old new k h memory e = memory_after stopped.input stopped.fault ending old new k h memory e
 
 -- a run, and its ending
-pub run_ended : (o : Observed) (before after : InputStates) (reported : Record) (answer : Result (Unit {0}) Stopped) (ending : Ending) (old middle new : Writer)
+pub run_ended : (o : Observed) (before after : InputStates) (reported : Record) (answer : Result (Unit {0}) InputFault) (ending : Ending) (old middle new : Writer)
     → RunsUpTo o before after reported answer old middle → EndsAfter answer ending middle.taken new.taken → ReportsFailures ending old.failures new.failures
     → RunsAs o before after reported ending old new
 run_ended o before after reported answer ending old middle new h k failures = record {

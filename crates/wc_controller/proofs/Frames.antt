@@ -6,7 +6,7 @@ use Rattle.std.specs.Prelude.{codes, decimal, filter, ℤ, unsigned_abs, Option,
 use Rattle.wc_laws_instrument.proofs.Requests.{requests_join}
 use Rattle.wc_controller.specs.Frames.{AnswersInFrames, AreFrames, HasNoEnd, IsFrame, completed_requests, returns_in}
 use Rattle.wc_laws_instrument.specs.Preludes.{past_after}
-use Rattle.wc_model.specs.Instrument.Answers.{last_digits, fraction_text, minus_of, value_text, weight_text, Mode, Shown, Tare, Asked, Plain, ZeroRefused, TareRefused, scale_status, status_byte, mode_byte, motion_byte, weight_asked, answer, answer_to, answers_to, Command, AskWeight, Zero, TakeTare, AskTare, Clear, Unknown, command_of, after_command, asked_zero, asked_tare}
+use Rattle.wc_model.specs.Instrument.Answers.{last_digits, fraction_text, minus_of, value_text, weight_text, Mode, Shown, Tare, RequestOutcome, Plain, ZeroRefused, TareRefused, scale_status, status_byte, mode_byte, motion_byte, weight_asked, answer, answer_to, answers_to, Command, AskWeight, Zero, TakeTare, AskTare, Clear, Unknown, command_of, after_command, asked_zero, asked_tare}
 use Rattle.wc_model.specs.Definitions.{has_sample, is_over, is_under, is_stable, is_centre_of_zero, is_tare_active, PlateData, IsPlate, grams, kilograms, tonnes, carriage_return, requests, requests_in, SetZero, SetTare, ClearTare, History, RowData, Counts, Bytes, Inputs, Scan, Change, LogRow, Past, answer_of_row, answer_with, answers_after, history_of, line_bytes}
 
 -- each byte is above CR
@@ -88,7 +88,7 @@ scale_above p history =
     (either (is_under p history) (codes "U") _ (one 85 (lit< tt))
     (either (is_centre_of_zero p history) (codes "Z") (codes " ") (one 90 (lit< tt)) (one 32 (lit< tt)))))
 
-status_above : (p : PlateData) (history : History) (asked : Asked) → AreAbove (status_byte p history asked)
+status_above : (p : PlateData) (history : History) (asked : RequestOutcome) → AreAbove (status_byte p history asked)
 status_above p history Plain = scale_above p history
 status_above p history ZeroRefused = one 69 (lit< tt)
 status_above p history TareRefused = one 84 (lit< tt)
@@ -107,12 +107,12 @@ unit_above unit (suc (suc zero), l, e) = subst AreAbove e (lit< tt, (lit< tt, (l
 unit_above unit (suc (suc (suc k)), l, e) = absurd (omega arith)
 
 -- what is between LF and CR
-abbrev inside_of : PlateData → History → Mode → Asked → List ℕ
+abbrev inside_of : PlateData → History → Mode → RequestOutcome → List ℕ
 inside_of p history mode asked =
     status_byte p history asked ++ codes "1" ++ mode_byte p history mode ++ motion_byte p history ++ codes " "
     ++ weight_text p.decimals (weight_asked p history mode) ++ p.unit
 
-inside_above : (p : PlateData) (history : History) (mode : Mode) (asked : Asked) → IsPlate p → AreAbove (inside_of p history mode asked)
+inside_above : (p : PlateData) (history : History) (mode : Mode) (asked : RequestOutcome) → IsPlate p → AreAbove (inside_of p history mode asked)
 inside_above p history mode asked plate =
     let a : List ℕ = status_byte p history asked in
     let b : List ℕ = a ++ codes "1" in
@@ -132,7 +132,7 @@ inside_above p history mode asked plate =
     (weight_above p.decimals (weight_asked p history mode)))
     (unit_above p.unit plate.known_unit)
 
-frame_of_answer : (p : PlateData) (history : History) (mode : Mode) (asked : Asked) → IsPlate p → IsFrame (answer p history mode asked)
+frame_of_answer : (p : PlateData) (history : History) (mode : Mode) (asked : RequestOutcome) → IsPlate p → IsFrame (answer p history mode asked)
 frame_of_answer p history mode asked plate =
     record { inside = inside_of p history mode asked; no_end = no_end (inside_of p history mode asked) (inside_above p history mode asked plate); whole = refl }
 

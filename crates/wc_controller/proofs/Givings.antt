@@ -8,7 +8,7 @@ use Rattle.wc_model.specs.Definitions.{text_view, PlateData, LogOf, LogRefusal, 
 use Rattle.wc_controller.specs.declared.ending.Ending.{Ending}
 use Rattle.wc_controller.specs.declared.ending.Ending.TheVariants as ended
 use Rattle.wc_job.specs.declared.input.Input.{Input}
-use Rattle.wc_controller.specs.declared.ending.Stopped.{Stopped}
+use Rattle.wc_controller.specs.declared.ending.InputFault.{InputFault}
 use Rattle.wc_model.specs.declared.fault.Fault.{Fault}
 use Rattle.wc_model.specs.declared.fault.Fault.TheVariants as fault
 use Rattle.wc_run.proofs.Prefixes.{prefix_after, prefix_of_more}
@@ -173,7 +173,7 @@ ended_by input allowed why ending old middle new w k =
     subst (λ e. EndsAs allowed e old new) (sym k.0) (failed tt (kept_after allowed old middle new w k.1))
 
 -- whatever a command answered, and its ending
-pub ends : {X : Type 0} (allowed : JobAnswer → Type 0) (answer : Result X Stopped) (ending : Ending) (old middle new : Option (List ℕ))
+pub ends : {X : Type 0} (allowed : JobAnswer → Type 0) (answer : Result X InputFault) (ending : Ending) (old middle new : Option (List ℕ))
     → WritesUpTo allowed (raised answer) old middle → EndsAfter answer ending middle new → EndsAs allowed ending old new
 ends allowed (Ok done) ending old middle new w k =
     subst (λ e. EndsAs allowed e old new) (sym k.0) (answered w.0 w.1 w.2 (Appends-kept old middle new w.0.output w.3 k.1))
@@ -208,7 +208,7 @@ gives allowed ended.NoMemory old new (failed is f) = in_prefix allowed 4 old new
 gives allowed ending old new (answered answer h is w) = absurd is
 
 -- an ending that reports a read fault at an input comes of one
-pub read_fault_reported : {X : Type 0} (input : Input) (answer : Result X Stopped) (ending : Ending) (old new : Option (List ℕ))
+pub read_fault_reported : {X : Type 0} (input : Input) (answer : Result X InputFault) (ending : Ending) (old new : Option (List ℕ))
     → EndsAfter answer ending old new → ending ≡ ended.ReadFault input → IsReadFaultAt input answer
 read_fault_reported input (Ok done) ending old new k e = absurd (cc (sym k.0 ∙ e))
 read_fault_reported input (Err stopped) ending old new k e = by_fault stopped.fault stopped.input refl k where
@@ -230,7 +230,7 @@ ends_fault_said false input Read ending old new h = (h.0, tt)
 ends_fault_said false input Write ending old new h = (h.0, tt)
 ends_fault_said false input Memory ending old new h = (h.0, tt)
 
-pub ends_said : {X : Type 0} (speaks : Bool) (answer : Result X Stopped) (ending : Ending) (old new : Option (List ℕ)) → EndsAfter answer ending old new
+pub ends_said : {X : Type 0} (speaks : Bool) (answer : Result X InputFault) (ending : Ending) (old new : Option (List ℕ)) → EndsAfter answer ending old new
     → EndsAfter answer ending (said speaks old) (said speaks new)
 ends_said true answer ending old new h = h
 ends_said false (Ok done) ending old new h = (h.0, tt)

@@ -5,7 +5,7 @@ use Rattle.wc_controller.specs.declared.ending.Ending.{Ending}
 use Rattle.wc_controller.specs.declared.ending.Ending.TheVariants as ended
 use Rattle.wc_job.specs.declared.input.Input.{Input}
 use Rattle.wc_job.specs.declared.input.Input.TheVariants as input
-use Rattle.wc_controller.specs.declared.ending.Stopped.{Stopped}
+use Rattle.wc_controller.specs.declared.ending.InputFault.{InputFault}
 use Rattle.wc_cost.specs.LoadedTexts.{LoadedText}
 use Rattle.wc_model.specs.Definitions.{IsLoaded, Text, text_view, Logic, first_logic}
 use Rattle.wc_run.specs.{text_of_next, RefusesToBegin}
@@ -71,6 +71,6 @@ fault_at_names at Read ending old new k is = subst (λ e. IsAt input.Names e) k.
 fault_at_names at Write ending old new k is = absurd (subst (λ e. IsAt input.Names e) k.0 is)
 fault_at_names at Memory ending old new k is = absurd (subst (λ e. IsAt input.Names e) k.0 is)
 
-pub stopped_at_names : (answer : Result (Unit {0}) Stopped) (ending : Ending) (old new : Option (List ℕ)) → EndsAfter answer ending old new → IsAt input.Names ending → StopsAt input.Names answer
+pub stopped_at_names : (answer : Result (Unit {0}) InputFault) (ending : Ending) (old new : Option (List ℕ)) → EndsAfter answer ending old new → IsAt input.Names ending → StopsAt input.Names answer
 stopped_at_names (Ok done) ending old new k is = absurd (subst (λ e. IsAt input.Names e) k.0 is)
 stopped_at_names (Err stopped) ending old new k is = fault_at_names stopped.input stopped.fault ending old new k is

@@ -9,7 +9,7 @@ use Rattle.wc_controller.specs.{IsNextUnloaded, IsUnloaded, RefusesLog, RefusesP
 use Rattle.wc_controller.specs.declared.ending.Ending.TheVariants as ended
 use Rattle.wc_job.specs.declared.input.Input.{Input}
 use Rattle.wc_job.specs.declared.input.Input.TheVariants as input
-use Rattle.wc_controller.specs.declared.ending.Stopped.{Stopped}
+use Rattle.wc_controller.specs.declared.ending.InputFault.{InputFault}
 use Rattle.wc_model.specs.Definitions.{plate_of, PlateData, IsLoaded, Text, longest_job, Record, log_of, AnswersNext}
 use Rattle.wc_plate.specs.TomlTable.{table_read}
 use Rattle.wc_record.specs.{HasCause, records_of}
@@ -18,7 +18,7 @@ use Rattle.wc_run.specs.declared.fault.RunFault.{RunFault}
 use Rattle.wc_run.specs.declared.fault.RunFault.TheVariants.{Refused, Read, Write, Memory}
 
 -- it stopped at an input before the log, which is not read
-stops_early : (o : Observed) (before after : InputStates) (reported : Record) (stopped : Stopped) (writer : Writer)
+stops_early : (o : Observed) (before after : InputStates) (reported : Record) (stopped : InputFault) (writer : Writer)
     → OfAnswers o before (λ allowed. WritesUpTo allowed (Some stopped.fault) writer.taken writer.taken)
     → (stopped.input ≡ input.Job → ⊥) → (stopped.input ≡ input.Log → ⊥)
     → (stopped.input ≡ input.Plate → IfSome before.plate.bytes (λ bytes. RefusesPlate bytes stopped.fault))
@@ -59,7 +59,7 @@ stops_early o before after reported stopped writer writes no_job no_log plate pr
 }
 
 -- what is known if it stopped at the log, at the next program after its reading, or not at all
-record IsLateRun (o : Observed) (before after : InputStates) (reported : Record) (answer : Result (Unit {0}) Stopped) (old new : Writer) : Type 0 where
+record IsLateRun (o : Observed) (before after : InputStates) (reported : Record) (answer : Result (Unit {0}) InputFault) (old new : Writer) : Type 0 where
   writes : OfAnswers o before (λ allowed. WritesUpTo allowed (raised answer) old.taken new.taken)
   later : IsLater answer
   blames_next : IfErr answer (λ stopped. stopped.input ≡ input.Next → IfSome (known_of before.next) (λ bytes. RefusesProgram bytes stopped.fault))
@@ -82,7 +82,7 @@ record IsLateRun (o : Observed) (before after : InputStates) (reported : Record)
 done_untold : (at : Input) (old new : ℕ) → new ≡ old → ReportsReadEndings at ended.Done old new
 done_untold at old new same = (λ e. absurd (no_read_fault at ended.Done (λ h. h) e), λ no. same)
 
-late : (o : Observed) (before after : InputStates) (reported : Record) (answer : Result (Unit {0}) Stopped) (old new : Writer) → IsLateRun o before after reported answer old new → RunsUpTo o before after reported answer old new
+late : (o : Observed) (before after : InputStates) (reported : Record) (answer : Result (Unit {0}) InputFault) (old new : Writer) → IsLateRun o before after reported answer old new → RunsUpTo o before after reported answer old new
 late o before after reported (Ok done) old new h = record {
   writes = h.writes;
   inputs = record {
@@ -166,7 +166,7 @@ not_alone : (reader : Option Reader) → IsSome reader → is_some reader ≡ fa
 not_alone None there alone = absurd (cc there)
 not_alone (Some reader) there alone = absurd (cc alone)
 
-module _ (o : Observed) (reported : Record) (plate plate_after : Reader) (program program_after next next_after : Option Reader) (log : Reader) (stopped : Stopped) (writer : Writer) where
+module _ (o : Observed) (reported : Record) (plate plate_after : Reader) (program program_after next next_after : Option Reader) (log : Reader) (stopped : InputFault) (writer : Writer) where
   pub at_plate : stopped.input ≡ input.Plate
       → IfSome plate.bytes (λ keys. RefusesPlate keys stopped.fault)
       → ReportsReadFaults {X = Unit {0}} input.Plate (Err stopped) plate.failures plate_after.failures
@@ -262,13 +262,13 @@ module _ (o : Observed) (reported : Record) (plate plate_after : Reader) (progra
             by_program (Some reader) whole = files.at_next o plate.bytes reader.bytes next log.bytes validated is text whole first loads stopped.fault writer.taken there refused
 
 -- nothing is said of an input at which it did not stop
-not_next : (answer : Result (Unit {0}) Stopped) (known : Option (List ℕ)) → (StopsAt input.Next answer → ⊥)
+not_next : (answer : Result (Unit {0}) InputFault) (known : Option (List ℕ)) → (StopsAt input.Next answer → ⊥)
     → IfErr answer (λ stopped. stopped.input ≡ input.Next → IfSome known (λ bytes. RefusesProgram bytes stopped.fault))
 not_next (Ok done) known other = tt
 not_next (Err stopped) known other = λ e. absurd (other e)
 
 -- a read fault of an input stopped at it
-read_at : (answer : Result (Unit {0}) Stopped) (at : Input) → IsReadFaultAt at answer → StopsAt at answer
+read_at : (answer : Result (Unit {0}) InputFault) (at : Input) → IsReadFaultAt at answer → StopsAt at answer
 read_at (Ok done) at is = is
 read_at (Err stopped) at is = is.0
 
@@ -276,7 +276,7 @@ module _ (o : Observed) (reported : Record) (plate plate_after : Reader) (progra
     (validated : PlateData) (is : IfSome plate.bytes (λ keys. (length keys ≤ longest_job) × (plate_of (table_read keys) ≡ Ok validated)))
     (plate_kept : plate_after.failures ≡ plate.failures) (plate_taken : TakesInput plate.bytes plate_after.bytes)
     (program_kept : failures_of program_after ≡ failures_of program) (program_taken : TakesInput (known_of program) (known_of program_after))
-    (answer : Result (Unit {0}) Stopped) (old new : Writer) where
+    (answer : Result (Unit {0}) InputFault) (old new : Writer) where
   -- the log was started with no program
   pub at_line : AreReadOf program None
       → IfSome log.bytes (λ bytes. WritesUpTo (IsLineAnswer o validated (log_of (records_of bytes))) (raised answer) old.taken new.taken)
@@ -339,12 +339,12 @@ module _ (o : Observed) (reported : Record) (plate plate_after : Reader) (progra
         same : is_some held ≡ is_some next
         same = same_next next held are
 
-        refused : (result : Result (Unit {0}) Stopped) → IfErr result (λ stopped. stopped.input ≡ input.Next → IsNextUnloaded held stopped.fault)
+        refused : (result : Result (Unit {0}) InputFault) → IfErr result (λ stopped. stopped.input ≡ input.Next → IsNextUnloaded held stopped.fault)
             → IfErr result (λ stopped. stopped.input ≡ input.Next → IfSome (known_of next) (λ bytes. RefusesProgram bytes stopped.fault))
         refused (Ok done) h = tt
         refused (Err stopped) h = λ e. next_read next held stopped.fault are (h e)
 
-        there : (result : Result (Unit {0}) Stopped) → IfErr result (λ stopped. stopped.input ≡ input.Next → IsNextUnloaded held stopped.fault) → StopsAt input.Next result → IsSome next
+        there : (result : Result (Unit {0}) InputFault) → IfErr result (λ stopped. stopped.input ≡ input.Next → IsNextUnloaded held stopped.fault) → StopsAt input.Next result → IsSome next
         there (Ok done) h at = absurd at
         there (Err stopped) h at = by_held next held are (h at) where
           by_held : (reader : Option Reader) (bytes : Option (List ℕ)) → AreReadOf reader bytes → IsNextUnloaded bytes stopped.fault → IsSome reader

@@ -7,7 +7,7 @@ use Rattle.wc_controller.specs.Endings.{HasNotFailedIn, IsAt, RefusesLength, Tak
 use Rattle.wc_controller.specs.declared.ending.Ending.TheVariants as ended
 use Rattle.wc_controller.specs.declared.ending.Ending.{Ending}
 use Rattle.wc_job.specs.declared.input.Input.{Input}
-use Rattle.wc_controller.specs.declared.ending.Stopped.{Stopped}
+use Rattle.wc_controller.specs.declared.ending.InputFault.{InputFault}
 use Rattle.wc_run.specs.Runs.{HasNotFailed}
 use Rattle.wc_run.specs.declared.fault.RunFault.{RunFault}
 use Rattle.wc_run.specs.declared.fault.RunFault.TheVariants.{Refused, Read, Write, Memory}
@@ -57,7 +57,7 @@ read_on_by at input Write old new h = tt
 read_on_by at input Memory old new h = tt
 
 -- a read fault is reported where it came
-pub reported_by : (stopped : Stopped) (input : Input) (old new : ℕ) → ReportsReadFaults {X = Unit {0}} input (Err stopped) old new
+pub reported_by : (stopped : InputFault) (input : Input) (old new : ℕ) → ReportsReadFaults {X = Unit {0}} input (Err stopped) old new
     → ReportsReadEndings input (fault_ending stopped.input stopped.fault) old new
 reported_by stopped input old new h = (λ e. h.0 (read_by stopped.input input stopped.fault e), λ no. h.1 (λ is. no (λ i. fault_ending (is.0 i) (is.1 i))))
 

@@ -7,7 +7,7 @@ use Rattle.wc_controller.specs.declared.ending.Ending.{Ending}
 use Rattle.wc_controller.specs.declared.ending.Ending.TheVariants as ended
 use Rattle.wc_job.specs.declared.input.Input.{Input}
 use Rattle.wc_job.specs.declared.input.Input.TheVariants as input
-use Rattle.wc_controller.specs.declared.ending.Stopped.{Stopped}
+use Rattle.wc_controller.specs.declared.ending.InputFault.{InputFault}
 use Rattle.wc_cost.specs.LoadedTexts.{LoadedText}
 use Rattle.wc_model.specs.Definitions.{plate_of, PlateData, IsLoaded, Text, text_view, longest_job, LogOf, refused_text, Logic, first_logic}
 use Rattle.wc_plate.specs.TomlTable.{table_read}
@@ -23,7 +23,7 @@ log_ended said start plate logic log_of (Refused number place) known taken h = h
 log_ended said start plate logic log_of fault known taken h = tt
 
 -- a run that ended as its log did
-pub run_ended : (said : Ended) (start : Start) (plate : PlateData) (logic : Option Logic) (log_of : List ℕ → LogOf) (answer : Result ℕ RunFault) (stop : Result (Unit {0}) Stopped)
+pub run_ended : (said : Ended) (start : Start) (plate : PlateData) (logic : Option Logic) (log_of : List ℕ → LogOf) (answer : Result ℕ RunFault) (stop : Result (Unit {0}) InputFault)
     (known : Option (List ℕ)) (taken : Option (List ℕ)) → raised stop ≡ fault_raised answer → IfSome known (λ bytes. EndsWhole said start plate logic (log_of bytes) answer taken)
     → OnEnd stop (IfSome known (λ bytes. says_of said taken start plate logic (log_of bytes)))
 run_ended said start plate logic log_of (Ok count) (Ok done) known taken e h = h
@@ -42,7 +42,7 @@ not_begun Write begins held said h at = tt
 not_begun Memory begins held said h at = tt
 
 -- more may be said
-pub end_more : {X : Type 0} (answer : Result X Stopped) (P Q : Type 0) → (P → Q) → OnEnd answer P → OnEnd answer Q
+pub end_more : {X : Type 0} (answer : Result X InputFault) (P Q : Type 0) → (P → Q) → OnEnd answer P → OnEnd answer Q
 end_more (Ok done) P Q f h = f h
 end_more (Err stopped) P Q f h = λ at. by_fault stopped.fault (h at) where
   by_fault : (why : RunFault) → OnRefusal why P → OnRefusal why Q
@@ -90,12 +90,12 @@ pub run_read : (inputs : InputStates) (taken : Option (List ℕ)) (plate : Plate
 run_read inputs taken plate said read h = on_known inputs.plate.bytes _ _ (λ table is. (plate, is.1, h)) read
 
 -- a run that stopped at its log may have written
-pub written_at_log : {X : Type 0} (answer : Result X Stopped) (old new : Option (List ℕ)) → IfErr answer (λ stopped. stopped.input ≡ input.Log) → IsUnwritten answer old new
+pub written_at_log : {X : Type 0} (answer : Result X InputFault) (old new : Option (List ℕ)) → IfErr answer (λ stopped. stopped.input ≡ input.Log) → IsUnwritten answer old new
 written_at_log (Ok done) old new at = tt
 written_at_log (Err stopped) old new at = λ elsewhere. absurd (elsewhere at)
 
 -- so it is with the ending of such a run
-pub ends_unwritten : {X : Type 0} (answer : Result X Stopped) (old new : Option (List ℕ)) → IsUnwritten answer old new → EndsUnwritten (ending_of answer) old new
+pub ends_unwritten : {X : Type 0} (answer : Result X InputFault) (old new : Option (List ℕ)) → IsUnwritten answer old new → EndsUnwritten (ending_of answer) old new
 ends_unwritten (Ok done) old new unwritten = tt
 ends_unwritten (Err stopped) old new unwritten = by_fault stopped.fault where
   by_fault : (why : RunFault) → EndsUnwritten (fault_ending stopped.input why) old new
@@ -132,7 +132,7 @@ module _ (said : Ended) (inputs : InputStates) (old middle new : Option (List �
   fault_after at Write ending k h unwritten = subst (λ e. EndsSaying said inputs e old new) (sym k.0) tt
   fault_after at Memory ending k h unwritten = subst (λ e. EndsSaying said inputs e old new) (sym k.0) tt
 
-  pub run_after : {X : Type 0} (answer : Result X Stopped) (ending : Ending) → EndsAfter answer ending middle new → OnEnd answer (OfRun inputs old (says_of said middle))
+  pub run_after : {X : Type 0} (answer : Result X InputFault) (ending : Ending) → EndsAfter answer ending middle new → OnEnd answer (OfRun inputs old (says_of said middle))
       → IsUnwritten answer old middle → EndsSaying said inputs ending old new
   run_after (Ok done) ending k h unwritten = subst (λ e. EndsSaying said inputs e old new) (sym k.0) (middle, k.1, h)
   run_after (Err stopped) ending k h unwritten = fault_after stopped.input stopped.fault ending k h unwritten

@@ -5,7 +5,7 @@ use Rattle.wc_controller.specs.declared.ending.Ending.{Ending}
 use Rattle.wc_controller.specs.declared.ending.Ending.TheVariants as ended
 use Rattle.wc_job.specs.declared.input.Input.{Input}
 use Rattle.wc_job.specs.declared.input.Input.TheVariants as input
-use Rattle.wc_controller.specs.declared.ending.Stopped.{Stopped}
+use Rattle.wc_controller.specs.declared.ending.InputFault.{InputFault}
 use Rattle.wc_model.specs.Definitions.{plate_of, IsRefused, Sections, longest_job, LogOf, Record}
 use Rattle.wc_plate.specs.TomlTable.{table_read}
 use Rattle.wc_record.specs.Reported.{record_at, records_read}
@@ -42,7 +42,7 @@ RefusesLog taken reported bytes (Refused number place) =
 RefusesLog taken reported bytes fault = ⊤
 
 -- what stopped at this input is a refusal of its bytes, if it is one
-abbrev pub StopsFor : {X : Type 0} → Input → (List ℕ → RunFault → Type 0) → Option (List ℕ) → Result X Stopped → Type 0
+abbrev pub StopsFor : {X : Type 0} → Input → (List ℕ → RunFault → Type 0) → Option (List ℕ) → Result X InputFault → Type 0
 StopsFor input refuses known (Ok done) = ⊤
 StopsFor input refuses known (Err stopped) = stopped.input ≡ input → IfSome known (λ bytes. refuses bytes stopped.fault)
 
@@ -69,7 +69,7 @@ StopsAsPart reported parts at (Refused number place) = RefusesPart reported part
 StopsAsPart reported parts at fault = ⊤
 
 -- whatever stopped at a part of a job is a refusal of that part, if it is one
-abbrev pub StopsForPart : {X : Type 0} → Record → Result Sections ℕ → Result X Stopped → Type 0
+abbrev pub StopsForPart : {X : Type 0} → Record → Result Sections ℕ → Result X InputFault → Type 0
 StopsForPart reported parts (Ok done) = ⊤
 StopsForPart reported parts (Err stopped) = StopsAsPart reported parts stopped.input stopped.fault
 

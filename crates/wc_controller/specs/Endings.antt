@@ -14,10 +14,10 @@ use Rattle.wc_run.specs.Runs.{AppendsPrefix, HasNotFailed, ReportsWrite}
 use Rattle.wc_run.specs.declared.fault.RunFault.{RunFault}
 use Rattle.wc_run.specs.declared.fault.RunFault.TheVariants.{Refused, Read, Write, Memory}
 use Rattle.wc_controller.specs.declared.ending.Ending.{Ending}
-use Rattle.wc_controller.specs.declared.ending.Stopped.{Stopped}
+use Rattle.wc_controller.specs.declared.ending.InputFault.{InputFault}
 
 -- the fault with which something stopped, if it did
-abbrev pub raised : {X : Type 0} → Result X Stopped → Option RunFault
+abbrev pub raised : {X : Type 0} → Result X InputFault → Option RunFault
 raised (Ok x) = None
 raised (Err stopped) = Some stopped.fault
 
@@ -58,7 +58,7 @@ abbrev pub TakesInput : Option (List ℕ) → Option (List ℕ) → Type 0
 TakesInput old new = TakesAtMost (longest_job + 1) old new
 
 -- a plate that was read of these bytes, or why there is none
-abbrev pub ReadsPlate : List ℕ → Result PlateData Stopped → Type 0
+abbrev pub ReadsPlate : List ℕ → Result PlateData InputFault → Type 0
 ReadsPlate bytes (Ok plate) = (length bytes ≤ longest_job) × (plate_of (table_read bytes) ≡ Ok plate)
 ReadsPlate bytes (Err stopped) = RefusesPlate bytes stopped.fault
 
@@ -111,7 +111,7 @@ EndsAfterFault input Write ending old new = (ending ≡ ended.WriteFault) × Kee
 EndsAfterFault input Memory ending old new = (ending ≡ ended.NoMemory) × Keeps old new
 
 -- the ending of whatever stopped, and what was written after
-abbrev pub EndsAfter : {X : Type 0} → Result X Stopped → Ending → Option (List ℕ) → Option (List ℕ) → Type 0
+abbrev pub EndsAfter : {X : Type 0} → Result X InputFault → Ending → Option (List ℕ) → Option (List ℕ) → Type 0
 EndsAfter (Ok done) ending old new = (ending ≡ ended.Done) × Keeps old new
 EndsAfter (Err stopped) ending old new = EndsAfterFault stopped.input stopped.fault ending old new
 
@@ -123,7 +123,7 @@ fault_ending input Write = ended.WriteFault
 fault_ending input Memory = ended.NoMemory
 
 -- the ending of whatever is answered
-abbrev pub ending_of : {X : Type 0} → Result X Stopped → Ending
+abbrev pub ending_of : {X : Type 0} → Result X InputFault → Ending
 ending_of (Ok done) = ended.Done
 ending_of (Err stopped) = fault_ending stopped.input stopped.fault
 
@@ -131,7 +131,7 @@ ending_of (Err stopped) = fault_ending stopped.input stopped.fault
 abbrev pub ReportsFailures : Ending → ℕ → ℕ → Type 0
 ReportsFailures ending old new = (ending ≡ ended.WriteFault → HasFailedSince old new) × ((ending ≡ ended.WriteFault → ⊥) → new ≡ old)
 
--- the same of a fault
+-- a fault is a write fault if the writer's failed calls rose, and only then
 abbrev pub ReportsWriteFaults : Option RunFault → ℕ → ℕ → Type 0
 ReportsWriteFaults None old new = new ≡ old
 ReportsWriteFaults (Some fault) old new = ReportsWrite fault old new
@@ -142,20 +142,20 @@ begin_fault_input (Refused number place) = input.Names
 begin_fault_input fault = input.Log
 
 -- it stopped at this input
-abbrev pub StopsAt : {X : Type 0} → Input → Result X Stopped → Type 0
+abbrev pub StopsAt : {X : Type 0} → Input → Result X InputFault → Type 0
 StopsAt input (Ok done) = ⊥
 StopsAt input (Err stopped) = stopped.input ≡ input
 
 -- it stopped because this input's reader failed
-abbrev pub IsReadFaultAt : {X : Type 0} → Input → Result X Stopped → Type 0
+abbrev pub IsReadFaultAt : {X : Type 0} → Input → Result X InputFault → Type 0
 IsReadFaultAt input (Ok done) = ⊥
 IsReadFaultAt input (Err stopped) = (stopped.input ≡ input) × (stopped.fault ≡ Read)
 
 -- a read fault is reported for this input if its reader's failed calls rose, and only then
-abbrev pub ReportsReadFaults : {X : Type 0} → Input → Result X Stopped → ℕ → ℕ → Type 0
+abbrev pub ReportsReadFaults : {X : Type 0} → Input → Result X InputFault → ℕ → ℕ → Type 0
 ReportsReadFaults input result old new = (IsReadFaultAt input result → HasFailedSince old new) × ((IsReadFaultAt input result → ⊥) → new ≡ old)
 
--- the same of an ending
+-- an ending is a read fault of this input if its reader's failed calls rose, and only then
 abbrev pub ReportsReadEndings : Input → Ending → ℕ → ℕ → Type 0
 ReportsReadEndings input ending old new = (ending ≡ ended.ReadFault input → HasFailedSince old new) × ((ending ≡ ended.ReadFault input → ⊥) → new ≡ old)
 
@@ -171,7 +171,7 @@ IsAt input (ended.ReadFault at) = at ≡ input
 IsAt input ending = ⊥
 
 -- if all was done, or this input is refused, its reader has not failed
-abbrev pub HasNotFailedAt : {X : Type 0} → Input → Result X Stopped → ℕ → ℕ → Type 0
+abbrev pub HasNotFailedAt : {X : Type 0} → Input → Result X InputFault → ℕ → ℕ → Type 0
 HasNotFailedAt input (Ok done) old new = new ≤ old
 HasNotFailedAt input (Err stopped) old new = stopped.input ≡ input → HasNotFailed (Err stopped.fault) old new
 

@@ -72,8 +72,8 @@ pub record KeepsToItself (plate : PlateData) (text : Text) (bound : ℕ) : Type 
       (programs.scan (record { text = text; store = store_after plate text past; next = None }) (image_after plate past) ms)
   pub line : (rows : List LogRow) → HasNoChange rows → IsFreeOfPrograms plate programs (first_logic text None) rows
 
--- The same of a program that has a next one, after whatever rows have come that are run, with the
--- change to the next one among them or not. The text is the one that runs at that scan, and the bound
+-- A program that has a next one keeps to itself too, after whatever rows have come that are run, with
+-- the change to the next one among them or not. The text is the one that runs at that scan, and the bound
 -- its own.
 pub record KeepsOverAChange (plate : PlateData) (text : Text) (next : Option Text) : Type 0 where
   pub scan : (past : Past) → AreRun next (reverse past) → (ms bound : ℕ) → IsProgramBound (logic_following plate (first_logic text next) past).text bound →
@@ -83,13 +83,13 @@ pub record KeepsOverAChange (plate : PlateData) (text : Text) (next : Option Tex
       (programs.scan (logic_following plate (first_logic text next) past) (image_after plate past) ms)
   pub line : (rows : List LogRow) → AreRun next rows → IsFreeOfPrograms plate programs (first_logic text next) rows
 
--- the same of one of several programs that follow one another
+-- what a scan of one of several programs shows is what it means, and the others stay next
 abbrev pub ShowsInTurn : Turns → Outcome → ScanResult Turns → Type 0
 ShowsInTurn turns (Done result store trace) shown =
     (shown.steps ≡ length trace) × (shown.outputs ≡ outputs_of store) × (shown.after ≡ record { text = turns.text; store = store; nexts = turns.nexts })
 ShowsInTurn turns (Stuck reason) shown = ⊥
 
--- The same of a program that others follow, as many as there are: after whatever rows, in whatever
+-- A program that others follow, as many as there are, keeps to itself: after whatever rows, in whatever
 -- order scans and changes come, the next scan of the text that runs then ends within its bound, its
 -- line shows what that scan means, and the answers are those of a run with no program.
 pub record KeepsInTurn (plate : PlateData) (first : Turns) : Type 0 where

@@ -7,7 +7,7 @@ use Rattle.wc_controller.specs.TakenLogs.{InputStates, Reader, Writer, IfKnown, 
 use Rattle.wc_controller.specs.declared.ending.Ending.{Ending}
 use Rattle.wc_controller.specs.declared.ending.Ending.TheVariants as ended
 use Rattle.wc_job.specs.declared.input.Input.TheVariants as input
-use Rattle.wc_controller.specs.declared.ending.Stopped.{Stopped}
+use Rattle.wc_controller.specs.declared.ending.InputFault.{InputFault}
 use Rattle.wc_model.specs.Definitions.{Record, JobAnswer}
 use Rattle.wc_record.specs.Left.{HasCause}
 use Rattle.wc_run.specs.{text_in_all, silent_plan}
@@ -79,7 +79,7 @@ pub record RunsAs (o : Observed) (before after : InputStates) (reported : Record
   pub failures : ReportsFailures ending old.failures new.failures
 
 -- How far such a run came when it stopped, before the line of a refusal is written.
-pub record RunsUpTo (o : Observed) (before after : InputStates) (reported : Record) (answer : Result (Unit {0}) Stopped) (old new : Writer) : Type 0 where
+pub record RunsUpTo (o : Observed) (before after : InputStates) (reported : Record) (answer : Result (Unit {0}) InputFault) (old new : Writer) : Type 0 where
   pub writes : OfAnswers o before (λ allowed. WritesUpTo allowed (raised answer) old.taken new.taken)
   pub inputs : ReadsInOrder before after reported (ending_of answer)
   pub readers : ReportsReaders before after (ending_of answer)

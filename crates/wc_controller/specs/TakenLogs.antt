@@ -9,7 +9,7 @@ use Rattle.wc_record.specs.{HasCause, records_of}
 use Rattle.wc_controller.specs.Files.{Observed}
 use Rattle.wc_controller.specs.Endings.{HasNotFailedAt, IsReadFaultAt, ReportsMemory, ReportsWriteFaults, StopsAt, raised}
 use Rattle.wc_run.specs.declared.fault.RunFault.TheVariants as fault
-use Rattle.wc_controller.specs.declared.ending.Stopped.{Stopped}
+use Rattle.wc_controller.specs.declared.ending.InputFault.{InputFault}
 
 -- a reader: the bytes that it is going to give, if they are known; its calls that failed; the bytes that it gave and its calls, counted together
 pub record Reader : Type 0 where
@@ -113,11 +113,11 @@ OfPrograms (Some program) next said =
     IfSome program.bytes (λ text. IfKnown next (λ known. (first : Text) × IsLoaded text first × OfLogic first known said))
 
 -- it stopped neither at a job nor at the plate nor at the program: these were read and checked before
-abbrev pub IsLater : {X : Type 0} → Result X Stopped → Type 0
+abbrev pub IsLater : {X : Type 0} → Result X InputFault → Type 0
 IsLater result = (StopsAt input.Job result → ⊥) × (StopsAt input.Plate result → ⊥) × (StopsAt input.Program result → ⊥)
 
 -- what a run reports of its log and its writer: names that are refused leave the log unread, a read fault has a cause, out of memory is no fault of the reader, and a write fault comes if the writer failed
-pub record ReportsDevices {X : Type 0} (taken : List ℕ → LogOf) (result : Result X Stopped) (old new : Reader) (failed_before failed : ℕ) : Type 0 where
+pub record ReportsDevices {X : Type 0} (taken : List ℕ → LogOf) (result : Result X InputFault) (old new : Reader) (failed_before failed : ℕ) : Type 0 where
   pub names : StopsAt input.Names result → new ≡ old
   pub read : IsReadFaultAt input.Log result → HasCause old.failures new.failures old.spent new.spent
   pub memory : raised result ≡ Some fault.Memory → ReportsMemory taken old.bytes old.failures new.failures old.spent new.spent

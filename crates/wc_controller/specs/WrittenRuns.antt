@@ -6,7 +6,7 @@ use Rattle.wc_controller.specs.declared.loaded.RunPrograms.{RunPrograms}
 use Rattle.wc_controller.specs.declared.ending.Ending.{Ending}
 use Rattle.wc_controller.specs.declared.ending.Ending.TheVariants as ended
 use Rattle.wc_job.specs.declared.input.Input.TheVariants as input
-use Rattle.wc_controller.specs.declared.ending.Stopped.{Stopped}
+use Rattle.wc_controller.specs.declared.ending.InputFault.{InputFault}
 use Rattle.wc_model.specs.Definitions.{plate_of, PlateData, IsLoaded, Text, LogOf, refused_text, Logic}
 use Rattle.wc_plate.specs.TomlTable.{table_read}
 use Rattle.wc_run.specs.{Ended, Start, loaded_of, logic_of}
@@ -40,7 +40,7 @@ OnRefusal (Refused number place) said = said
 OnRefusal fault said = ⊤
 
 -- and this if it came to the log's end, or to a refused row
-abbrev pub OnEnd : {X : Type 0} → Result X Stopped → Type 0 → Type 0
+abbrev pub OnEnd : {X : Type 0} → Result X InputFault → Type 0 → Type 0
 OnEnd (Ok done) said = said
 OnEnd (Err stopped) said = stopped.input ≡ input.Log → OnRefusal stopped.fault said
 
@@ -49,11 +49,11 @@ abbrev pub says_of : Ended → Option (List ℕ) → Start → PlateData → Opt
 says_of ended taken start plate logic log = ended start taken plate logic log.rows log.refusal
 
 -- if a run stopped at an input before its log, or at the names to observe, nothing was written
-abbrev pub IsUnwritten : {X : Type 0} → Result X Stopped → Option (List ℕ) → Option (List ℕ) → Type 0
+abbrev pub IsUnwritten : {X : Type 0} → Result X InputFault → Option (List ℕ) → Option (List ℕ) → Type 0
 IsUnwritten (Ok done) old new = ⊤
 IsUnwritten (Err stopped) old new = stopped.input ≢ input.Log → new ≡ old
 
--- the same of an ending after which no line of a refusal is written
+-- nor was anything at an ending before the log after which no line of a refusal is written
 abbrev pub EndsUnwritten : Ending → Option (List ℕ) → Option (List ℕ) → Type 0
 EndsUnwritten (ended.Refused at number place) old new = at ≢ input.Log → new ≡ old
 EndsUnwritten (ended.ReadFault at) old new = at ≢ input.Log → new ≡ old

@@ -9,7 +9,7 @@ ghost use Rattle.wc_laws_loading.specs.Laws.{HasOne};
 ghost use Rattle.wc_model.specs.Definitions.{IsPlate, PlateData, sections_of, HasFailedSince};
 ghost use Rattle.wc_record.specs.Reported.{fields_reported};
 
-use crate::ending::{Ending, Stopped, end};
+use crate::ending::{Ending, InputFault, end};
 use crate::loaded::{RunPrograms, load_input, run_loaded};
 use crate::reading::read_input;
 use std::alloc::Global;
@@ -20,7 +20,7 @@ use wc_record::RefusedRow;
 use wc_run::{Report, RunFault};
 
 /// What stopped a run of a log in memory: reading it fails only when out of memory.
-fn stopped_in_memory(stopped: Stopped) -> Stopped
+fn stopped_in_memory(stopped: InputFault) -> InputFault
     ensures input { result.input ≡ stopped.input }
     ensures fault { result.fault ≡ fault_in_memory stopped.fault }
 {
@@ -28,7 +28,7 @@ fn stopped_in_memory(stopped: Stopped) -> Stopped
         RunFault::Read => RunFault::Memory,
         fault => fault,
     };
-    Stopped {
+    InputFault {
         input: stopped.input,
         fault,
     }
@@ -40,7 +40,7 @@ fn answer_sections<W: ByteOut>(
     sections: Sections<'_>,
     writer: &mut W,
     reported: &mut RefusedRow,
-) -> Result<(), Stopped>
+) -> Result<(), InputFault>
     ensures writes { WritesUpTo (AllowsSections (sections_view sections.entry)) (raised result)
         (W.bytes_taken writer.old) (W.bytes_taken writer.new) }
     ensures blames { StopsForPart (fields_reported reported.new) (Ok (sections_view sections.entry))
@@ -51,7 +51,7 @@ fn answer_sections<W: ByteOut>(
 {
     let plate = match plate(alloc, sections.plate) {
         Ok(plate) => plate,
-        Err(fault) => return Err(Stopped {
+        Err(fault) => return Err(InputFault {
             input: Input::Plate,
             fault: RunFault::from(fault),
         }),
@@ -80,7 +80,7 @@ fn answer_input<R: ByteIn, W: ByteOut>(
     reader: &mut R,
     writer: &mut W,
     reported: &mut RefusedRow,
-) -> Result<(), Stopped>
+) -> Result<(), InputFault>
     ensures writes { IfSome (R.bytes_left reader.old)
         (λ bytes. WritesUpTo (Allows bytes) (raised result)
         (W.bytes_taken writer.old) (W.bytes_taken writer.new)) }
@@ -96,7 +96,7 @@ fn answer_input<R: ByteIn, W: ByteOut>(
     match read_input(alloc, Input::Job, reader) {
         Ok(bytes) => match sections(&bytes) {
             Ok(sections) => answer_sections(alloc, sections, writer, reported),
-            Err(number) => Err(Stopped {
+            Err(number) => Err(InputFault {
                 input: Input::Job,
                 fault: RunFault::Refused { number, place: 0 },
             }),

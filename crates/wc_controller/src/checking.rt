@@ -8,7 +8,7 @@ ghost use Rattle.wc_model.specs.Definitions.{text_view, PlateData, IsLoaded};
 ghost use Rattle.wc_controller.specs.Headline.{HasTheHeadline, IsTheHeadline};
 ghost use Rattle.wc_laws_loading.specs.Laws.{IsSmall};
 
-use crate::ending::{Ending, Stopped, end};
+use crate::ending::{Ending, InputFault, end};
 use crate::reading::read_input;
 use crate::unit_lines::write_units;
 use std::alloc::Global;
@@ -77,7 +77,7 @@ fn check_input<T: ByteIn, W: ByteOut>(
     paths: bool,
     program: &mut T,
     writer: &mut W,
-) -> Result<(), Stopped>
+) -> Result<(), InputFault>
     ensures writes { IfSome (T.bytes_left program.old)
         (λ bytes. WritesUpTo (AnswersCheckFile paths bytes) (raised result)
         (W.bytes_taken writer.old) (W.bytes_taken writer.new)) }
@@ -91,7 +91,7 @@ fn check_input<T: ByteIn, W: ByteOut>(
     let text = read_input(alloc, Input::Program, program)?;
     match check(alloc, &text, paths, writer) {
         Ok(()) => Ok(()),
-        Err(fault) => Err(Stopped {
+        Err(fault) => Err(InputFault {
             input: Input::Program,
             fault,
         }),

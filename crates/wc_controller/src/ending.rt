@@ -9,7 +9,7 @@ use wc_run::RunFault;
 
 /// Why a command stopped, and the input that was being read or answered then.
 #[derive(Clone, Copy, PartialEq, Eq)]
-pub struct Stopped {
+pub struct InputFault {
     pub input: Input,
     pub fault: RunFault,
 }
@@ -38,10 +38,10 @@ pub enum Ending {
 
 impl Ending {
     /// The ending of what was done, or of what stopped it, if no line of a refusal is to be written.
-    pub fn of(answer: Result<(), Stopped>) -> Ending
+    pub fn of(answer: Result<(), InputFault>) -> Ending
         ensures { result ≡ ending_of answer }
     {
-        let Stopped { input, fault } = match answer {
+        let InputFault { input, fault } = match answer {
             Ok(()) => return Ending::Done,
             Err(stopped) => stopped,
         };
@@ -100,14 +100,14 @@ fn end_refused<W: ByteOut>(
 
 /// The ending of what was done, or of what stopped it: a refusal's line is written after what
 /// is there.
-pub fn end<W: ByteOut>(alloc: Global, answer: Result<(), Stopped>, writer: &mut W) -> Ending
+pub fn end<W: ByteOut>(alloc: Global, answer: Result<(), InputFault>, writer: &mut W) -> Ending
     ensures ends { EndsAfter answer result (W.bytes_taken writer.old)
         (W.bytes_taken writer.new) }
     ensures failures { (before : ℕ)
         → ReportsWriteFaults (raised answer) before (W.failure_count writer.old)
         → ReportsFailures result before (W.failure_count writer.new) }
 {
-    let Stopped { input, fault } = match answer {
+    let InputFault { input, fault } = match answer {
         Ok(()) => return Ending::Done,
         Err(stopped) => stopped,
     };

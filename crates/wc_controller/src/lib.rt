@@ -13,7 +13,7 @@ mod unit_lines;
 
 pub use answering::{answer_job, job};
 pub use checking::{check, check_file, load, the_headline};
-pub use ending::{Ending, Stopped, end};
+pub use ending::{Ending, InputFault, end};
 pub use log_runs::{run, run_last};
 pub use reading::read_input;
 pub use running::{RunInputs, last_files, report_files, run_files, run_inputs};

@@ -9,7 +9,7 @@ ghost use Rattle.wc_record.specs.{fields_reported, records_of};
 ghost use Rattle.wc_run.specs.{text_of_next, WritesBy, HasNotFailed, ReportsRefused, ReportsWrites, Plan, RefusesToBegin, bytes_of, loaded_of, said, start_of, start_with, IsNotAfter, Represents};
 
 use crate::checking::load;
-use crate::ending::Stopped;
+use crate::ending::InputFault;
 use std::alloc::Global;
 use wc_cost::Loaded;
 use wc_job::Input;
@@ -17,7 +17,7 @@ use wc_machine::Machine;
 use wc_model::{ByteIn, ByteOut};
 use wc_plate::Plate;
 use wc_record::RefusedRow;
-use wc_run::{Observer, Program, RunFault, Scale, run};
+use wc_run::{LogScale, Observer, Program, RunFault, run};
 use wc_store::SlotStore;
 
 /// The plate of a run and its programs: the text of the first and what was loaded of it, and the
@@ -35,7 +35,7 @@ pub(crate) fn load_input<'a>(
     alloc: Global,
     input: Input,
     text: &'a [u8],
-) -> Result<Loaded<'a>, Stopped>
+) -> Result<Loaded<'a>, InputFault>
     ensures loaded { IfOk result (λ loaded. IsLoaded text.now (text_view loaded.source)) }
     ensures refused { IfErr result (λ stopped. IsUnloaded text.now stopped.fault) }
     ensures input { IfErr result (λ stopped. stopped.input ≡ input) }
@@ -44,7 +44,7 @@ pub(crate) fn load_input<'a>(
 {
     match load(alloc, text) {
         Ok(loaded) => Ok(loaded),
-        Err(fault) => Err(Stopped {
+        Err(fault) => Err(InputFault {
             input,
             fault: RunFault::from(fault),
         }),
@@ -52,7 +52,7 @@ pub(crate) fn load_input<'a>(
 }
 
 /// Loads the next program, if there is one.
-fn load_next<'a>(alloc: Global, text: Option<&'a [u8]>) -> Result<Option<Loaded<'a>>, Stopped>
+fn load_next<'a>(alloc: Global, text: Option<&'a [u8]>) -> Result<Option<Loaded<'a>>, InputFault>
     ensures loaded { IfOk result
         (λ next. IsNextLoadedOf (option_map (λ text. text.now) text.entry) next) }
     ensures refused { IfErr result
@@ -100,7 +100,7 @@ fn begin<W: ByteOut, O: Observer<SlotStore, W>>(
     observer: &mut O,
     first: Option<Program<'_, '_>>,
     next: Option<Program<'_, '_>>,
-) -> Result<(), Stopped>
+) -> Result<(), InputFault>
     requires { O.is_new observer.old }
     ensures settings { O.settings observer.new ≡ O.settings observer.old }
     ensures plan { O.plan observer.new ≡ O.plan observer.old }
@@ -119,7 +119,7 @@ fn begin<W: ByteOut, O: Observer<SlotStore, W>>(
 {
     match observer.begin(first, next) {
         Ok(()) => Ok(()),
-        Err(fault) => Err(Stopped {
+        Err(fault) => Err(InputFault {
             input: begin_fault_input(fault),
             fault,
         }),
@@ -132,18 +132,18 @@ fn scale_of<'a>(
     plate: &Plate,
     loaded: Loaded<'a>,
     next: Option<Loaded<'a>>,
-) -> Result<Scale<'a, SlotStore>, RunFault>
+) -> Result<LogScale<'a, SlotStore>, RunFault>
     ensures represents { IfOk result (λ scale. Represents scale plate.now
         (Some (first_logic (text_view loaded.entry.source) (text_of_next next.entry))) []) }
     ensures first { IfOk result (λ scale. IsNotAfter scale 0) }
     ensures memory { IsOkUnless result RunFault.Memory }
 {
     let machine = Machine::new(alloc, loaded)?;
-    Scale::new(alloc, plate, Some(machine), next)
+    LogScale::new(alloc, plate, Some(machine), next)
 }
 
 /// How a run ends whose log was run with this answer.
-fn stopped_at_log(answer: Result<u32, RunFault>) -> Result<(), Stopped>
+fn stopped_at_log(answer: Result<u32, RunFault>) -> Result<(), InputFault>
     ensures input { IfErr result (λ stopped. stopped.input ≡ Input.Log) }
     ensures fault { raised result ≡ fault_raised answer }
     ensures blames { (plan : Plan) (plate : PlateData) (logic : Option Logic) (fields : Record)
@@ -160,7 +160,7 @@ fn stopped_at_log(answer: Result<u32, RunFault>) -> Result<(), Stopped>
 {
     match answer {
         Ok(_) => Ok(()),
-        Err(fault) => Err(Stopped {
+        Err(fault) => Err(InputFault {
             input: Input::Log,
             fault,
         }),
@@ -175,7 +175,7 @@ pub(crate) fn run_alone<W: ByteOut, O: Observer<SlotStore, W>, L: ByteIn>(
     log: &mut L,
     writer: &mut W,
     reported: &mut RefusedRow,
-) -> Result<(), Stopped>
+) -> Result<(), InputFault>
     requires new { O.is_new observer.old }
     ensures writes { IfSome (L.bytes_left log.old)
         (λ bytes. WritesUpTo (IsLineAnswer (observed_by O.plan O.begins observer.old) plate.now
@@ -202,9 +202,9 @@ pub(crate) fn run_alone<W: ByteOut, O: Observer<SlotStore, W>, L: ByteIn>(
     if let Err(stopped) = begin(observer, None, None) {
         return Err(stopped);
     }
-    match Scale::new(alloc, plate, None, None) {
+    match LogScale::new(alloc, plate, None, None) {
         Ok(mut scale) => stopped_at_log(run(alloc, observer, &mut scale, log, writer, reported)),
-        Err(fault) => Err(Stopped {
+        Err(fault) => Err(InputFault {
             input: Input::Log,
             fault,
         }),
@@ -220,7 +220,7 @@ pub(crate) fn run_loaded<W: ByteOut, O: Observer<SlotStore, W>, L: ByteIn>(
     log: &mut L,
     writer: &mut W,
     reported: &mut RefusedRow,
-) -> Result<(), Stopped>
+) -> Result<(), InputFault>
     requires new { O.is_new observer.old }
     ensures writes { IfSome (L.bytes_left log.old)
         (λ bytes. WritesUpTo (AnswersNext (next_text programs.entry)
@@ -273,7 +273,7 @@ pub(crate) fn run_loaded<W: ByteOut, O: Observer<SlotStore, W>, L: ByteIn>(
     }
     match scale_of(alloc, &plate, loaded, next) {
         Ok(mut scale) => stopped_at_log(run(alloc, observer, &mut scale, log, writer, reported)),
-        Err(fault) => Err(Stopped {
+        Err(fault) => Err(InputFault {
             input: Input::Log,
             fault,
         }),

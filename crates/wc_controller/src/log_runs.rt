@@ -10,7 +10,7 @@ use wc_machine::Machine;
 use wc_model::{ByteIn, ByteOut};
 use wc_plate::Plate;
 use wc_record::RefusedRow;
-use wc_run::{LastScans, Report, RunFault, Scale, classified};
+use wc_run::{LastScans, LogScale, Report, RunFault, classify};
 use wc_store::Store;
 
 /// Runs a log and writes its report, with a line for every scan. Each row is read and carried out,
@@ -73,10 +73,10 @@ pub fn run<'a, S: Store, R: ByteIn, W: ByteOut>(
 {
     let mut text = Report::new(alloc);
     let mut reported = RefusedRow::new(alloc);
-    match Scale::new(alloc, plate, machine, next) {
+    match LogScale::new(alloc, plate, machine, next) {
         Ok(mut scale) => wc_run::run(alloc, &mut text, &mut scale, reader, writer, &mut reported),
         // If the reader has failed already as often as can be counted, that is reported.
-        Err(fault) => Err(classified(fault, reader, reader.failures(), reader.spent())),
+        Err(fault) => Err(classify(fault, reader, reader.failures(), reader.spent())),
     }
 }
 
@@ -129,11 +129,11 @@ pub fn run_last<'a, S: Store, R: ByteIn, W: ByteOut>(
 {
     let mut scans = match LastScans::new(alloc, last) {
         Ok(scans) => scans,
-        Err(fault) => return Err(classified(fault, reader, reader.failures(), reader.spent())),
+        Err(fault) => return Err(classify(fault, reader, reader.failures(), reader.spent())),
     };
     let mut reported = RefusedRow::new(alloc);
-    match Scale::new(alloc, plate, machine, next) {
+    match LogScale::new(alloc, plate, machine, next) {
         Ok(mut scale) => wc_run::run(alloc, &mut scans, &mut scale, reader, writer, &mut reported),
-        Err(fault) => Err(classified(fault, reader, reader.failures(), reader.spent())),
+        Err(fault) => Err(classify(fault, reader, reader.failures(), reader.spent())),
     }
 }

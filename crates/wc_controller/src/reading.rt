@@ -4,7 +4,7 @@ ghost use Rattle.wc_controller.specs.Endings as endings;
 ghost use Rattle.wc_controller.specs.TakenLogs.{optional_of, AreReadOf, failures_of, known_of};
 ghost use Rattle.wc_job.specs.Views.{IsWhole};
 
-use crate::ending::Stopped;
+use crate::ending::InputFault;
 use std::alloc::Global;
 use wc_job::{Input, ReadFault, read_whole};
 use wc_model::ByteIn;
@@ -30,7 +30,7 @@ pub fn read_input<R: ByteIn>(
     alloc: Global,
     input: Input,
     reader: &mut R,
-) -> Result<Vec<u8>, Stopped>
+) -> Result<Vec<u8>, InputFault>
     ensures whole { IfOk result (λ bytes. IsWhole (R.bytes_left reader.old) bytes.items) }
     ensures too_long { IfErr result
         (λ stopped. RefusesLength (R.bytes_left reader.old) stopped.fault) }
@@ -41,7 +41,7 @@ pub fn read_input<R: ByteIn>(
 {
     match read_whole(alloc, reader) {
         Ok(bytes) => Ok(bytes),
-        Err(fault) => Err(Stopped {
+        Err(fault) => Err(InputFault {
             input,
             fault: whole_fault(fault),
         }),
@@ -53,7 +53,7 @@ pub(crate) fn read_optional<R: ByteIn>(
     alloc: Global,
     input: Input,
     reader: &mut Option<R>,
-) -> Result<Option<Vec<u8>>, Stopped>
+) -> Result<Option<Vec<u8>>, InputFault>
     ensures whole { IfOk result
         (λ text. AreReadOf
         (optional_of R.bytes_left R.failure_count R.spent_count reader.old)
@@ -81,7 +81,7 @@ pub(crate) fn read_optional<R: ByteIn>(
 }
 
 /// The text that is there, borrowed.
-pub(crate) fn borrowed(text: &Option<Vec<u8>>) -> Option<&[u8]>
+pub(crate) fn text_slice(text: &Option<Vec<u8>>) -> Option<&[u8]>
     ensures { option_map (λ borrowed. borrowed.now) result
         ≡ option_map (λ held. held.items) text.now }
 {
@@ -92,7 +92,7 @@ pub(crate) fn borrowed(text: &Option<Vec<u8>>) -> Option<&[u8]>
 }
 
 /// The plate that a reader gives.
-pub(crate) fn read_plate<R: ByteIn>(alloc: Global, reader: &mut R) -> Result<Plate, Stopped>
+pub(crate) fn read_plate<R: ByteIn>(alloc: Global, reader: &mut R) -> Result<Plate, InputFault>
     ensures plate { IfSome (R.bytes_left reader.old) (λ bytes. ReadsPlate bytes result) }
     ensures input { IfErr result (λ stopped. stopped.input ≡ Input.Plate) }
     ensures silent { (count : ℕ) → ReportsWriteFaults (raised result) count count }
@@ -106,7 +106,7 @@ pub(crate) fn read_plate<R: ByteIn>(alloc: Global, reader: &mut R) -> Result<Pla
     };
     match plate(alloc, &bytes) {
         Ok(plate) => Ok(plate),
-        Err(fault) => Err(Stopped {
+        Err(fault) => Err(InputFault {
             input: Input::Plate,
             fault: RunFault::from(fault),
         }),

@@ -10,9 +10,9 @@ ghost use Rattle.wc_model.specs.Instrument.Plates.{IsPlate, PlateData};
 ghost use Rattle.wc_record.specs.Reported.{fields_reported};
 ghost use Rattle.wc_run.specs.Observing.{said_by};
 
-use crate::ending::{Ending, Stopped, end};
+use crate::ending::{Ending, InputFault, end};
 use crate::loaded::{RunPrograms, load_input, run_alone, run_loaded};
-use crate::reading::{borrowed, read_optional, read_plate};
+use crate::reading::{read_optional, read_plate, text_slice};
 use std::alloc::Global;
 use std::marker::Model;
 use wc_job::Input;
@@ -64,7 +64,7 @@ pub fn run_inputs<
     inputs: &mut RunInputs<P, T, N, L>,
     writer: &mut W,
     reported: &mut RefusedRow,
-) -> Result<(), Stopped>
+) -> Result<(), InputFault>
     requires new { O.is_new observer.old }
     ensures refused { StopsAt Input.Names result → OfPrograms inputs.old.program inputs.old.next
         (λ logic. (O.begins observer.old logic ≡ false)
@@ -104,7 +104,7 @@ pub fn run_inputs<
         plate,
         text: &text,
         loaded,
-        next: borrowed(&other),
+        next: text_slice(&other),
     };
     run_loaded(alloc, observer, programs, &mut inputs.log, writer, reported)
 }

@@ -10,8 +10,8 @@ use Rattle.wc_model.specs.declared.kind.Kind.TheVariants.{Bool as KindBool}
 use Rattle.wc_model.specs.declared.operator.Direction.{Direction}
 use Rattle.wc_model.specs.declared.operator.Direction.TheVariants.{Into, OutOf}
 use Rattle.wc_model.specs.declared.operator.Operator.{Operator}
-use Rattle.wc_model.specs.declared.operator.Storing.{Storing}
-use Rattle.wc_model.specs.declared.operator.Storing.TheVariants.{Result as StoreResult, Negation, Set, Reset}
+use Rattle.wc_model.specs.declared.operator.StoreKind.{StoreKind}
+use Rattle.wc_model.specs.declared.operator.StoreKind.TheVariants.{Result as StoreResult, Negation, Set, Reset}
 use Rattle.wc_model.specs.declared.value.Value.TheVariants.{Bool as Truth, Dint, Time}
 use Rattle.wc_laws_language.proofs.CallSteps.{block_known, field_found, input_found, output_found, type_of-found}
 use Rattle.wc_laws_language.proofs.Steps.{clean_first, clean_second, or-true, some_of}
@@ -42,7 +42,7 @@ loadable_plain (Constant value) = tt
 loadable_plain other = tt
 
 -- a store
-store_writable : (scope : Scope) (line : ℕ) (storing : Storing) (target : Term) (kind : Option Kind) → Clean (term_checks scope.unit target) → Clean (store_checks scope line storing target kind) → IsWritable scope target
+store_writable : (scope : Scope) (line : ℕ) (storing : StoreKind) (target : Term) (kind : Option Kind) → Clean (term_checks scope.unit target) → Clean (store_checks scope line storing target kind) → IsWritable scope target
 store_writable scope line storing target kind named c = by storing c
   where
     suited : (k : Option Kind) → suits_target scope target k ≡ true → is_some (term_kind scope target) ≡ true
@@ -52,7 +52,7 @@ store_writable scope line storing target kind named c = by storing c
     written : is_some (entity_of scope target) ≡ true → is_writable (entity_of scope target) ≡ true → suits_target scope target kind ≡ true → IsWritable scope target
     written s w t = writable scope target (writable_is_stored scope target s w) named w (suited kind t)
 
-    by : (x : Storing) → Clean (store_checks scope line x target kind) → IsWritable scope target
+    by : (x : StoreKind) → Clean (store_checks scope line x target kind) → IsWritable scope target
     by StoreResult h = written h.0 h.1.0 h.1.1.1.0
     by Negation h = let l = clean_second (writing_checks scope line target ++ truth_checks line kind) (asks 402 line (suits_target scope target kind) ∷ []) h in written h.0 h.1.0 l.0
     by Set h = let l = clean_second (writing_checks scope line target ++ truth_checks line kind) (asks 402 line (suits_target scope target kind) ∷ []) h in written h.0 h.1.0 l.0

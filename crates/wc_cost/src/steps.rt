@@ -7,11 +7,11 @@ ghost use Rattle.wc_cost.specs.Lowering.{operand_view};
 ghost use Rattle.wc_verify.specs.Seeing.{IsScope};
 
 use crate::operands::{FlatOperand, flat_operand, place_of};
-use wc_model::{Code, Operand, Operator, Place, Storing};
+use wc_model::{Code, Operand, Operator, Place, StoreKind};
 use wc_names::Tables;
 
 /// A number that is loaded; LDN negates 0 and 1.
-fn loaded(negated: bool, number: i32) -> i32
+fn loaded_number(negated: bool, number: i32) -> i32
     ensures { IsBitWhere negated number → result ≡ (if negated then pos 1 -ℤ number else number) }
 {
     if !negated {
@@ -43,7 +43,7 @@ pub(crate) fn load<'a>(
 {
     match flat_operand(tables, unit, operand) {
         FlatOperand::Number(number) => Code::LoadNumber {
-            number: loaded(negated, number),
+            number: loaded_number(negated, number),
         },
         FlatOperand::At(place) => Code::LoadPlace { negated, place },
     }
@@ -53,7 +53,7 @@ pub(crate) fn load<'a>(
 pub(crate) fn store<'a>(
     tables: &Tables<'a>,
     unit: usize,
-    storing: Storing,
+    storing: StoreKind,
     target: &Operand<'_>,
 ) -> Code
     ensures { (scope : Scope) (rest : Lines) → IsScope tables.now unit scope

@@ -8,7 +8,7 @@ ghost use Rattle.wc_run.specs.OpenScales.{state_view};
 use crate::rows::{put_prelude, put_row};
 use std::alloc::Global;
 use wc_model::{ByteOut, MOST_ROWS, put_bytes};
-use wc_run::{Observer, Prelude, Program, RowSeen, RunFault, Scale, write_text};
+use wc_run::{LogScale, Observer, Prelude, Program, RowSeen, RunFault, write_text};
 use wc_store::SlotStore;
 
 /// What is left of a capacity after the rows of a load and of the request that is made at it, if there is such a load.
@@ -127,13 +127,13 @@ impl<W: ByteOut> Observer<SlotStore, W> for Cutter {
     fn see(
         &mut self,
         seen: &RowSeen<'_>,
-        scale: &Scale<'_, SlotStore>,
+        scale: &LogScale<'_, SlotStore>,
         writer: &mut W,
     ) -> Result<(), RunFault> {
         if self.left > 0 {
             self.left -= 1;
             self.time = seen.row.ms;
-            self.prelude = Some(scale.opened().prelude());
+            self.prelude = Some(scale.open_scale().prelude());
             return Ok(());
         }
         if self.opened {

@@ -6,7 +6,7 @@ use Rattle.wc_model.specs.declared.operand.Operand.{Operand}
 use Rattle.wc_model.specs.declared.operand.Word.{Word as Spelled}
 use Rattle.wc_model.specs.declared.operator.Condition.{Condition}
 use Rattle.wc_model.specs.declared.operator.Operator.{Operator}
-use Rattle.wc_model.specs.declared.operator.Storing.{Storing}
+use Rattle.wc_model.specs.declared.operator.StoreKind.{StoreKind}
 use Rattle.wc_model.specs.declared.tree.Argument.{Argument}
 use Rattle.wc_model.specs.declared.tree.Instr.{Instr, fold_out-Instr}
 use Rattle.wc_model.specs.declared.tree.Instr.TheOpen.{Instr-F}
@@ -80,7 +80,7 @@ found_at unit line instr others seen rest e s = ap (λ i. first_broken (body_nam
 made_load : (label : Option Spelled) (n : Bool) (o : Operand) (k : ℕ) (rest : Lines) → line_view (record { label = label; instr = Some (instrs.Load n o k) }) rest ≡ Plain (option_map word_view label) k (Load n (term_view o)) rest
 made_load label n o k rest = search (the_lemmas, rules)
 
-made_store : (label : Option Spelled) (n : Storing) (o : Operand) (k : ℕ) (rest : Lines) → line_view (record { label = label; instr = Some (instrs.Store n o k) }) rest ≡ Plain (option_map word_view label) k (Store n (term_view o)) rest
+made_store : (label : Option Spelled) (n : StoreKind) (o : Operand) (k : ℕ) (rest : Lines) → line_view (record { label = label; instr = Some (instrs.Store n o k) }) rest ≡ Plain (option_map word_view label) k (Store n (term_view o)) rest
 made_store label n o k rest = search (the_lemmas, rules)
 
 made_apply : (label : Option Spelled) (n : Operator) (o : Operand) (k : ℕ) (rest : Lines) → line_view (record { label = label; instr = Some (instrs.Apply n o k) }) rest ≡ Plain (option_map word_view label) k (Apply n (term_view o)) rest
@@ -95,7 +95,7 @@ PlainAt unit line instr step =
 pub load_at : (unit : ProgramUnit) (line : Line) (n : Bool) (o : Operand) (k : ℕ) → PlainAt unit line (instrs.Load n o k) (Load n (term_view o))
 load_at unit line n o k others rest e = found_at unit line _ others _ rest e (made_load line.label n o k others) ∙ plain_found unit (option_map word_view line.label) k (Load n (term_view o)) others rest
 
-pub store_at : (unit : ProgramUnit) (line : Line) (n : Storing) (o : Operand) (k : ℕ) → PlainAt unit line (instrs.Store n o k) (Store n (term_view o))
+pub store_at : (unit : ProgramUnit) (line : Line) (n : StoreKind) (o : Operand) (k : ℕ) → PlainAt unit line (instrs.Store n o k) (Store n (term_view o))
 store_at unit line n o k others rest e = found_at unit line _ others _ rest e (made_store line.label n o k others) ∙ plain_found unit (option_map word_view line.label) k (Store n (term_view o)) others rest
 
 pub apply_at : (unit : ProgramUnit) (line : Line) (n : Operator) (o : Operand) (k : ℕ) → PlainAt unit line (instrs.Apply n o k) (Apply n (term_view o))

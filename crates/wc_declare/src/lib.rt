@@ -9,4 +9,4 @@ mod types;
 mod unit;
 
 pub use declaring::tables;
-pub use wc_names::{DeclaredType, Entity, Field, Formal, Frame, Key, Located, Names, Tables};
+pub use wc_names::{DeclaredType, Entity, Field, Formal, Frame, Key, Names, Tables, VariablePlace};

@@ -1,7 +1,7 @@
 use crate::members::{address_advice, member_advice, point_advice};
 use std::alloc::Global;
 use wc_built_in::{Keyword, elementary_type, keyword_named};
-use wc_diag_mistakes::{Refused, Said, block_with, words};
+use wc_diag_mistakes::{RefusedText, Sentence, block_with, words};
 use wc_diag_stops::{
     Brought, difference, first_word, following, is_near, last_line, text_of, without_line_ends,
 };
@@ -23,13 +23,13 @@ fn near_word(words: &'static str, word: &[u8]) -> Option<&'static str> {
 }
 
 /// What to write for what is near, if something is.
-pub(crate) fn likely(refused: &Refused<'_, '_>, near: Option<&str>) -> Said {
+pub(crate) fn likely(refused: &RefusedText<'_, '_>, near: Option<&str>) -> Sentence {
     let near = near?;
     Some(format!(in refused.alloc; "did you mean `{near}`?"))
 }
 
 /// What to write for a word that begins a line and is neither an operator nor a keyword: one that it may be a misspelling of.
-fn operator_advice(refused: &Refused<'_, '_>) -> Said {
+fn operator_advice(refused: &RefusedText<'_, '_>) -> Sentence {
     let word = refused.token();
     let end = match refused.is_in_program() {
         true => "END_PROGRAM",
@@ -53,7 +53,7 @@ fn begins_body(before: &[Token<'_>]) -> bool {
 
 /// What a name that is looked for is wanted for.
 #[derive(Clone, Copy, PartialEq, Eq)]
-pub(crate) enum Wanted {
+pub(crate) enum NameUse {
     /// A variable that is read.
     Value,
     /// A variable that is written: no input of its unit is.
@@ -70,13 +70,17 @@ fn unit_at<'a, 't>(units: &'t [Unit<'a>], place: usize) -> Option<&'t Unit<'a>> 
 }
 
 /// The name of a declaration that is wanted, if it has one: one that is spelled almost as this one, or the first of this type.
-fn near_in_declaration<'a>(declaration: &Decl<'a>, name: &[u8], wanted: Wanted) -> Option<&'a str> {
+fn near_in_declaration<'a>(
+    declaration: &Decl<'a>,
+    name: &[u8],
+    wanted: NameUse,
+) -> Option<&'a str> {
     let kind = declaration.type_name.text;
-    let is_of = wanted == Wanted::InstanceOf;
-    let is_instance = is_of || wanted == Wanted::Instance;
+    let is_of = wanted == NameUse::InstanceOf;
+    let is_instance = is_of || wanted == NameUse::Instance;
     if is_instance == elementary_type(kind).is_some()
         || is_of && !kind.eq_ignore_ascii_case(name)
-        || wanted == Wanted::Target && declaration.section == Section::Input
+        || wanted == NameUse::Target && declaration.section == Section::Input
     {
         return None;
     }
@@ -85,24 +89,29 @@ fn near_in_declaration<'a>(declaration: &Decl<'a>, name: &[u8], wanted: Wanted) 
 }
 
 /// The name that the unit around a place declares and that is wanted: of two the later one.
-fn near_in_unit<'a>(units: &[Unit<'a>], name: &[u8], at: usize, wanted: Wanted) -> Option<&'a str> {
+fn near_in_unit<'a>(
+    units: &[Unit<'a>],
+    name: &[u8],
+    at: usize,
+    wanted: NameUse,
+) -> Option<&'a str> {
     let mut declarations = unit_at(units, at)?.declarations.iter().rev();
     declarations.find_map(|declaration| near_in_declaration(declaration, name, wanted))
 }
 
 /// The name that the unit around what is refused declares and that is wanted.
 pub(crate) fn near_name<'a>(
-    refused: &Refused<'a, '_>,
+    refused: &RefusedText<'a, '_>,
     name: &[u8],
-    wanted: Wanted,
+    wanted: NameUse,
 ) -> Option<&'a str> {
     near_in_unit(refused.units, name, refused.span.start, wanted)
 }
 
 /// What to write for the name of a block in place of that of an instance: the one of the unit, or one to declare.
-fn instance_advice(refused: &Refused<'_, '_>) -> Said {
+fn instance_advice(refused: &RefusedText<'_, '_>) -> Sentence {
     let block = words(refused.offending())?;
-    let Some(instance) = near_name(refused, block.as_bytes(), Wanted::InstanceOf) else {
+    let Some(instance) = near_name(refused, block.as_bytes(), NameUse::InstanceOf) else {
         return Some(format!(in refused.alloc;
             "declare an instance in VAR, such as v : {block}; and call that: CAL v(..)"
         ));
@@ -111,7 +120,7 @@ fn instance_advice(refused: &Refused<'_, '_>) -> Said {
 }
 
 /// What to write for what is called and not declared: a label, or an instance.
-fn called_advice(refused: &Refused<'_, '_>) -> Said {
+fn called_advice(refused: &RefusedText<'_, '_>) -> Sentence {
     let name = words(refused.offending())?;
     let label = near_label(refused.units, name.as_bytes(), refused.span.start);
     let block = block_with(text_of(refused.after().get(1))).unwrap_or("TON");
@@ -129,12 +138,12 @@ fn called_advice(refused: &Refused<'_, '_>) -> Said {
 
 /// Which variable of the program a watched name may be a misspelling of, if one is near. The program was read into these units;
 /// the word before the first point of the name is in none of them.
-pub fn watched_advice(alloc: Global, units: &[Unit<'_>], name: &[u8]) -> Said {
+pub fn watched_advice(alloc: Global, units: &[Unit<'_>], name: &[u8]) -> Sentence {
     let word = first_word(name);
     let rest = str::from_utf8(following(name, word.len())).unwrap_or("");
     let wanted = match word.len() < name.len() {
-        true => Wanted::Instance,
-        false => Wanted::Value,
+        true => NameUse::Instance,
+        false => NameUse::Value,
     };
     let near = near_in_unit(units, word, usize::MAX, wanted)?;
     Some(format!(in alloc; "did you mean `{near}{rest}`?"))
@@ -149,7 +158,7 @@ fn near_label<'a>(units: &[Unit<'a>], name: &[u8], place: usize) -> Option<&'a s
 }
 
 /// What to write for a label that no line of the body has: a near one, or a line of its own.
-fn label_advice(refused: &Refused<'_, '_>) -> Said {
+fn label_advice(refused: &RefusedText<'_, '_>) -> Sentence {
     let name = refused.offending();
     match near_label(refused.units, name, refused.span.start) {
         None => {
@@ -163,7 +172,7 @@ fn label_advice(refused: &Refused<'_, '_>) -> Said {
 }
 
 /// Which type a name that is not a type may be a misspelling of, of the text or of the language.
-fn type_advice(refused: &Refused<'_, '_>) -> Said {
+fn type_advice(refused: &RefusedText<'_, '_>) -> Sentence {
     let (name, place) = (refused.token(), refused.span.start);
     let mut units = refused.units.iter();
     let unit = units.find(|unit| unit.line as usize <= place && is_near(unit.name.text, name));
@@ -173,7 +182,7 @@ fn type_advice(refused: &Refused<'_, '_>) -> Said {
 }
 
 /// What to write if one path alone leads to the label before the slice, and it brings nothing.
-fn path_advice(refused: &Refused<'_, '_>) -> Said {
+fn path_advice(refused: &RefusedText<'_, '_>) -> Sentence {
     let paths = refused.span.paths?;
     match (paths.other, paths.first.brought) {
         (None, Brought::Nothing) => Some(empty_path_advice(refused.alloc, paths.first.line)),
@@ -182,7 +191,7 @@ fn path_advice(refused: &Refused<'_, '_>) -> Said {
 }
 
 /// Where END_VAR is missing, if the word before begins a section, or is almost END_VAR.
-fn section_advice(refused: &Refused<'_, '_>) -> Said {
+fn section_advice(refused: &RefusedText<'_, '_>) -> Sentence {
     let token = refused.previous()?;
     let (line, word) = (token.line, words(refused.word_before())?);
     if matches!(keyword_named(token.text), Some(Keyword::SectionStart(_))) {
@@ -199,7 +208,7 @@ fn section_advice(refused: &Refused<'_, '_>) -> Said {
 }
 
 /// What to write for a field, or a name in the list of a call, that a block does not have.
-fn name_advice(refused: &Refused<'_, '_>) -> Said {
+fn name_advice(refused: &RefusedText<'_, '_>) -> Sentence {
     let Some(block) = refused.block() else {
         return point_advice(refused);
     };
@@ -211,12 +220,12 @@ fn name_advice(refused: &Refused<'_, '_>) -> Said {
 }
 
 /// What to write for a name that is not declared, by what it is used for.
-fn undeclared_advice(refused: &Refused<'_, '_>) -> Said {
+fn undeclared_advice(refused: &RefusedText<'_, '_>) -> Sentence {
     let is_called = refused.span.formal.is_none() && refused.is_called();
     let wanted = match refused.sets() {
-        true => Wanted::Target,
-        false if is_called => Wanted::Instance,
-        false => Wanted::Value,
+        true => NameUse::Target,
+        false if is_called => NameUse::Instance,
+        false => NameUse::Value,
     };
     match near_name(refused, refused.offending(), wanted) {
         None if is_called => called_advice(refused),
@@ -225,7 +234,7 @@ fn undeclared_advice(refused: &Refused<'_, '_>) -> Said {
 }
 
 /// What to write instead, with the available values; nothing beyond the hint, if nothing is found.
-pub fn advice_at(refused: &Refused<'_, '_>, mistake: Mistake) -> Said {
+pub fn advice_at(refused: &RefusedText<'_, '_>, mistake: Mistake) -> Sentence {
     let token = refused.token();
     match (refused.number, mistake.case) {
         (201, Case::NoOperator) => operator_advice(refused),

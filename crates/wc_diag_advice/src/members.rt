@@ -1,8 +1,8 @@
-use crate::advice::{Wanted, likely, near_name};
+use crate::advice::{NameUse, likely, near_name};
 use std::alloc::AllocError;
 use std::fmt::Write;
 use wc_built_in::{standard_block, standard_fields, variable_at};
-use wc_diag_mistakes::{Refused, Said, block_with, words};
+use wc_diag_mistakes::{RefusedText, Sentence, block_with, words};
 use wc_diag_stops::{same_prefix, without_line_ends};
 use wc_diag_texts::{Case, hint_of};
 use wc_model::{Decl, Section, StandardBlock, Unit};
@@ -17,14 +17,14 @@ fn is_near_member(member: &[u8], name: &[u8]) -> bool {
 }
 
 /// The block of the text that has that name.
-fn block_named<'a, 't>(refused: &Refused<'a, 't>, block: &str) -> Option<&'t Unit<'a>> {
+fn block_named<'a, 't>(refused: &RefusedText<'a, 't>, block: &str) -> Option<&'t Unit<'a>> {
     let mut units = refused.units.iter();
     units.find(|unit| unit.name.text.eq_ignore_ascii_case(block.as_bytes()))
 }
 
 /// The inputs of a block of the text, or its outputs, in words, with commas between, as long as they are not too long.
 fn own_members(
-    refused: &Refused<'_, '_>,
+    refused: &RefusedText<'_, '_>,
     block: &str,
     wanted: Section,
 ) -> Result<String, AllocError> {
@@ -52,7 +52,7 @@ fn own_members(
 
 /// What to write for a name, after that of its instance, that a block does not have as an input or output: a near one, and what it has.
 pub(crate) fn member_advice(
-    refused: &Refused<'_, '_>,
+    refused: &RefusedText<'_, '_>,
     block: &str,
     is_input: bool,
     (instance, name): (&[u8], &[u8]),
@@ -84,7 +84,7 @@ pub(crate) fn member_advice(
 }
 
 /// What to write for a name before a point that is not of an instance.
-pub(crate) fn point_advice(refused: &Refused<'_, '_>) -> Said {
+pub(crate) fn point_advice(refused: &RefusedText<'_, '_>) -> Sentence {
     let (alloc, name) = (refused.alloc, words(refused.offending())?);
     let field = words(refused.field())?;
     if let Some(kind) = refused.word_at(refused.span.block) {
@@ -92,8 +92,8 @@ pub(crate) fn point_advice(refused: &Refused<'_, '_>) -> Said {
             "`{name}` is a {kind}, and has no fields: only an instance has, such as t.Q of t : TON;"
         ));
     }
-    let instance = near_name(refused, name.as_bytes(), Wanted::InstanceOf);
-    if let Some(near) = instance.or(near_name(refused, name.as_bytes(), Wanted::Instance)) {
+    let instance = near_name(refused, name.as_bytes(), NameUse::InstanceOf);
+    if let Some(near) = instance.or(near_name(refused, name.as_bytes(), NameUse::Instance)) {
         return Some(format!(in alloc; "did you mean `{near}.{field}`?"));
     }
     if standard_block(name.as_bytes()).is_some() || block_named(refused, name).is_some() {
@@ -119,7 +119,7 @@ pub(crate) fn point_advice(refused: &Refused<'_, '_>) -> Said {
 }
 
 /// The address that a number after a point is of, if it is one without its `%`.
-pub(crate) fn address_advice(refused: &Refused<'_, '_>) -> Said {
+pub(crate) fn address_advice(refused: &RefusedText<'_, '_>) -> Sentence {
     let digits = words(refused.token()).unwrap_or("");
     let [.., name, _] = without_line_ends(refused.before()) else {
         return None;

@@ -6,7 +6,7 @@ use Rattle.std.specs.List.{find}
 use Rattle.std.specs.Prelude.{cond}
 use Rattle.wc_diag_spans.specs.Finds.{IsWithin}
 use Rattle.wc_diag_spans.specs.declared.diagnostic.Diagnostic.{Diagnostic}
-use Rattle.wc_diag_messages.specs.Warned.{IsNamedThere, IsPlaced, has_there, is_called, is_warned, marked, shown_line, start_on, warned_token}
+use Rattle.wc_diag_messages.specs.Warned.{IsNamedThere, IsPlaced, has_there, is_called, is_warned, marked_span, shown_line, start_on, warned_token}
 use Rattle.wc_diag_warnings.specs.declared.warning.Warning.{Warning}
 use Rattle.wc_lexer.specs.declared.shape.Token.{Token}
 
@@ -20,12 +20,12 @@ found_passes p (y ∷ ys) x e = by (p y) refl e (found_passes p ys x)
     by false is found later = later found
 
 -- a mark begins where it is put
-begins_there : (name : List ℕ) (start : ℕ) (line : List ℕ) → (marked name start line).start ≡ start
+begins_there : (name : List ℕ) (start : ℕ) (line : List ℕ) → (marked_span name start line).start ≡ start
 begins_there [] start line = refl
 begins_there (byte ∷ rest) start line = refl
 
 -- the name is where the line has it
-named : (name : List ℕ) (start : ℕ) (line : List ℕ) → has_there line start name ≡ true → IsNamedThere name line (marked name start line)
+named : (name : List ℕ) (start : ℕ) (line : List ℕ) → has_there line start name ≡ true → IsNamedThere name line (marked_span name start line)
 named [] start line there = tt
 named (byte ∷ rest) start line there = (bytes_eq-Decides (take (length (byte ∷ rest)) (drop start line)) (byte ∷ rest)).0 there
 
@@ -59,7 +59,7 @@ at_token text warning diagnostic token is placed =
     let least : warning.line ≤ token.line = leb-true warning.line token.line (and_parts (nat_le warning.line token.line) (is_called name token && has_there line (start_on text token line) name) is).0 in
     record {
       below = let e : diagnostic.line ≡ token.line = placed.line_is in omega (arith, e, least);
-      own = λ none. let e : None ≡ Some (marked name start shown) = sym none ∙ placed.span_is in absurd (cc);
+      own = λ none. let e : None ≡ Some (marked_span name start shown) = sym none ∙ placed.span_is in absurd (cc);
       within = subst (λ s. IfSome s (λ span. span.start ≤ length shown)) (sym placed.span_is) (subst (λ n. n ≤ length shown) (sym (begins_there name start shown)) (min-le_right _ (length shown)));
       represents = subst (λ s. IfSome s (IsNamedThere name shown)) (sym placed.span_is) (named name start shown here);
     }

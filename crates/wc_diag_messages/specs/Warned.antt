@@ -52,9 +52,9 @@ abbrev pub warned_token : List ℕ → Warning → List Token → Option Token
 warned_token text warning tokens = find (is_warned text warning) tokens
 
 -- what is marked of a line from a byte on: a name; with no name the rest of the line
-abbrev pub marked : List ℕ → ℕ → List ℕ → Span
-marked [] start line = record { start = start; length = length line - start }
-marked (byte ∷ rest) start line = record { start = start; length = length (byte ∷ rest) }
+abbrev pub marked_span : List ℕ → ℕ → List ℕ → Span
+marked_span [] start line = record { start = start; length = length line - start }
+marked_span (byte ∷ rest) start line = record { start = start; length = length (byte ∷ rest) }
 
 -- the name is there on the line; what has no name may be anywhere
 abbrev pub IsNamedThere : List ℕ → List ℕ → Span → Type 0
@@ -65,7 +65,7 @@ IsNamedThere (byte ∷ rest) line span = take span.length (drop span.start line)
 pub record IsPlaced (text : List ℕ) (warning : Warning) (token : Option Token) (diagnostic : Diagnostic) : Type 0 where
   pub line_is : diagnostic.line ≡ option_map_or (λ found. found.line) token warning.line
   pub shows : diagnostic.shown.items ≡ shown_line diagnostic.line text
-  pub span_is : diagnostic.span ≡ option_map (λ found. marked warning.name.now (start_on text found diagnostic.shown.items) diagnostic.shown.items) token
+  pub span_is : diagnostic.span ≡ option_map (λ found. marked_span warning.name.now (start_on text found diagnostic.shown.items) diagnostic.shown.items) token
 
 -- what is known of a warning: its line of the text, or one below it if its name is there, with its token marked, and what is said of
 -- its name

@@ -102,7 +102,12 @@ fn short(alloc: Global, name: &[u8], parts: &Parts) -> Result<Message, AllocErro
 }
 
 /// What is said of what has that name, in that format.
-fn printed(alloc: Global, format: Format, name: &[u8], parts: &Parts) -> Result<Vec<u8>, AllocError>
+fn formatted_message(
+    alloc: Global,
+    format: Format,
+    name: &[u8],
+    parts: &Parts,
+) -> Result<Vec<u8>, AllocError>
     requires { IsPrintable parts.now }
     ensures all { IfOk result (λ bytes. Prints format name.now parts.now bytes.items) }
     ensures plain { IfOk result (λ bytes. IsPlainIn format bytes.items) }
@@ -116,7 +121,7 @@ fn printed(alloc: Global, format: Format, name: &[u8], parts: &Parts) -> Result<
 }
 
 /// What is said of a refusal, in that format; each line ends with a line feed. The error is out of memory.
-pub fn explained(
+pub fn refusal_message(
     alloc: Global,
     format: Format,
     refusal: &Refusal<'_>,
@@ -126,7 +131,7 @@ pub fn explained(
     ensures calm { IfOk result (λ bytes. IsCalmIn format bytes.items) }
 {
     let parts = parts_of(alloc, refusal)?;
-    printed(alloc, format, refusal.name, &parts)
+    formatted_message(alloc, format, refusal.name, &parts)
 }
 
 /// What is said of a warning of a file's text, in that format: its number, the file, the line and the column of its token, its name
@@ -145,5 +150,5 @@ pub fn warning_message(
     ensures calm { IfOk result (λ bytes. IsCalmIn format bytes.items) }
 {
     let parts = warning_parts(alloc, text, tokens, warning)?;
-    printed(alloc, format, file, &parts)
+    formatted_message(alloc, format, file, &parts)
 }

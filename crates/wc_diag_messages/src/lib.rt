@@ -13,10 +13,10 @@ mod placing;
 mod snippets;
 mod warned_parts;
 
-pub use explaining::{explained, warning_message};
+pub use explaining::{refusal_message, warning_message};
 pub use jobs::{JobSection, section_of};
 pub use left_out::left_out_message;
 pub use page::{page as page_of, warning_page};
 pub use parts::Severity;
 pub use wc_diag_spans::{Evidence, Refusal};
-pub use wc_diag_texts::{Message, shown};
+pub use wc_diag_texts::{Message, shown_text};

@@ -7,7 +7,7 @@ use crate::placing::first_column;
 use json::Writer;
 use std::alloc::{AllocError, Global};
 use wc_diag_spans::Diagnostic;
-use wc_diag_texts::{Message, column_of, shown};
+use wc_diag_texts::{Message, column_of, shown_text};
 
 /// Writes a member with a text.
 pub(crate) fn write_text(writer: &mut Writer, name: &str, text: &str) -> Result<(), AllocError>
@@ -121,7 +121,7 @@ fn name_text(alloc: Global, name: &[u8]) -> Result<String, AllocError>
     match str::from_utf8(name) {
         Ok(text) => text.to_owned(alloc),
         Err(_) => {
-            let shown = shown(alloc, name)?;
+            let shown = shown_text(alloc, name)?;
             shown.as_str().to_owned(alloc)
         }
     }

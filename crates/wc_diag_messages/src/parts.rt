@@ -6,7 +6,7 @@ use crate::placing::{named_line, place_words};
 use crate::snippets::{WIDEST, bytes_at};
 use std::alloc::{AllocError, Global};
 use wc_diag_spans::{Diagnostic, Refusal, find};
-use wc_diag_texts::{Message, entry_of, shown, words_of};
+use wc_diag_texts::{Message, entry_of, shown_text, words_of};
 
 /// Whether something is refused, or accepted and suspicious.
 #[derive(Clone, Copy)]
@@ -85,7 +85,7 @@ fn reported_of(alloc: Global, number: u16, diagnostic: &Diagnostic) -> Result<Me
 {
     let sentence = sentence(number, diagnostic);
     let mark = if sentence.is_empty() { "" } else { ": " };
-    let detail = shown(alloc, diagnostic.detail.as_bytes())?;
+    let detail = shown_text(alloc, diagnostic.detail.as_bytes())?;
     let mut message = Message::new(alloc);
     write_subject(&mut message, &diagnostic.subject)?;
     message.say(sentence)?;
@@ -105,8 +105,8 @@ pub(crate) fn parts_of(alloc: Global, refusal: &Refusal<'_>) -> Result<Parts, Al
         line: named_line(refusal, diagnostic.line),
         place: place_words(alloc, refusal)?,
         reported: reported_of(alloc, number, &diagnostic)?,
-        expected: shown(alloc, words_of(diagnostic.expected).as_bytes())?,
-        advice: shown(alloc, hint(number, &diagnostic).as_bytes())?,
+        expected: shown_text(alloc, words_of(diagnostic.expected).as_bytes())?,
+        advice: shown_text(alloc, hint(number, &diagnostic).as_bytes())?,
         diagnostic,
     })
 }

@@ -1,12 +1,12 @@
 ghost use Rattle.std.specs.Prelude.{◌≡◌, ◌++◌, IfOk, option_copied};
-ghost use Rattle.wc_diag_messages.specs.Warned.{IsPlaced, KnowsWarning, has_there, is_called, is_warned, marked, named_text, shown_line, start_on, warned_token};
+ghost use Rattle.wc_diag_messages.specs.Warned.{IsPlaced, KnowsWarning, has_there, is_called, is_warned, marked_span, named_text, shown_line, start_on, warned_token};
 ghost use Rattle.wc_diag_texts.specs.Plain.{shown_text};
 
 use crate::parts::{Parts, Severity};
 use crate::snippets::bytes_at;
 use std::alloc::{AllocError, Global};
 use wc_diag_spans::{Diagnostic, Span, column_at, line_at};
-use wc_diag_texts::{Message, shown, warning_of};
+use wc_diag_texts::{Message, shown_text, warning_of};
 use wc_diag_warnings::Warning;
 use wc_lexer::Token;
 
@@ -61,8 +61,8 @@ fn warned_token<'a, 't>(
 }
 
 /// What is marked of a line from a byte on: a name; with no name the rest of the line.
-fn marked(name: &[u8], start: usize, line: &[u8]) -> Span
-    ensures { result ≡ marked name.now start line.now }
+fn marked_span(name: &[u8], start: usize, line: &[u8]) -> Span
+    ensures { result ≡ marked_span name.now start line.now }
 {
     let length = match name {
         [] => line.len().saturating_sub(start),
@@ -77,7 +77,7 @@ fn words_of(number: u8) -> (&'static str, &'static str) {
 }
 
 /// What is suspicious, in words: the name, and what is said of it.
-fn reported(alloc: Global, name: &[u8], sentence: &str) -> Result<Message, AllocError>
+fn warning_sentence(alloc: Global, name: &[u8], sentence: &str) -> Result<Message, AllocError>
     ensures { IfOk result (λ reported. reported.bytes.items
         ≡ named_text name.now ++ shown_text sentence.now) }
 {
@@ -103,7 +103,7 @@ fn diagnostic_of(
     let found = warned_token(tokens, text, warning);
     let line = found.map_or(warning.line, |token| token.line);
     let shown = shown_line(text, line);
-    let span = found.map(|token| marked(warning.name, start_on(text, token, shown), shown));
+    let span = found.map(|token| marked_span(warning.name, start_on(text, token, shown), shown));
     let mut diagnostic = Diagnostic::new(alloc, line);
     diagnostic.span = span;
     diagnostic.shown = shown.to_vec(alloc)?;
@@ -126,9 +126,9 @@ pub(crate) fn warning_parts(
         number: u16::from(warning.number),
         line: diagnostic.line,
         place: Message::new(alloc),
-        reported: reported(alloc, warning.name, sentence)?,
+        reported: warning_sentence(alloc, warning.name, sentence)?,
         expected: Message::new(alloc),
-        advice: shown(alloc, hint.as_bytes())?,
+        advice: shown_text(alloc, hint.as_bytes())?,
         diagnostic,
     })
 }

@@ -10,6 +10,6 @@ mod unreached;
 
 pub use foreign::block_with;
 pub use mistakes::mistake_at;
-pub use refused::{Refused, Said, said_text, words};
+pub use refused::{RefusedText, Sentence, said_text, words};
 pub use types::difference_said;
 pub use unreached::{block_line, follows_leaving, is_unreached};

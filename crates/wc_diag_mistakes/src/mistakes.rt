@@ -1,5 +1,5 @@
 use crate::foreign::{OPERATORS, TYPES, UNITS, left_out, mistaken_function, mistaken_word, row_of};
-use crate::refused::Refused;
+use crate::refused::RefusedText;
 use crate::types::{mistaken_kind, mistaken_reset};
 use crate::unreached::{block_line, follows_leaving, is_unreached};
 use wc_built_in::{
@@ -15,7 +15,7 @@ use wc_lexer::{Shape, Token};
 use wc_model::{Condition, Kind, StandardBlock, UnitKind, is_word};
 
 /// A word in the place of an operator that is known, or by the token after it.
-fn mistaken_start(refused: &Refused<'_, '_>) -> Option<Mistake> {
+fn mistaken_start(refused: &RefusedText<'_, '_>) -> Option<Mistake> {
     let word = refused.token();
     mistake_among! {
         (keyword_named(word), refused.next().map(|token| token.shape));
@@ -33,7 +33,7 @@ fn mistaken_start(refused: &Refused<'_, '_>) -> Option<Mistake> {
 }
 
 /// A word in the place of an operator, which only a colon could follow.
-fn mistaken_operator(refused: &Refused<'_, '_>) -> Mistake {
+fn mistaken_operator(refused: &RefusedText<'_, '_>) -> Mistake {
     let word = refused.token();
     if matches!(keyword_named(word), Some(Keyword::Kept)) {
         return left_out(word);
@@ -54,13 +54,13 @@ fn mistaken_operator(refused: &Refused<'_, '_>) -> Mistake {
 }
 
 /// Whether a line above has a word, which may then be a name.
-fn is_above(refused: &Refused<'_, '_>, word: &[u8]) -> bool {
+fn is_above(refused: &RefusedText<'_, '_>, word: &[u8]) -> bool {
     let mut tokens = refused.before().iter();
     tokens.any(|token| token.line < refused.line() && is_word(token.text, word))
 }
 
 /// Whether a word may be a label: a jump above leads to it, and nothing is after it on its line, an operator or a `;`.
-fn is_label(refused: &Refused<'_, '_>) -> bool {
+fn is_label(refused: &RefusedText<'_, '_>) -> bool {
     let (label, next) = (refused.token(), refused.after().first());
     let is_end = is_shape(next, Shape::LineEnd) || is_shape(next, Shape::Semicolon);
     let is_whole = next.is_none() || is_end || is_operator(text_of(next));
@@ -73,7 +73,7 @@ fn is_label(refused: &Refused<'_, '_>) -> bool {
 }
 
 /// A mistake that the words before an unexpected token show.
-fn mistaken_before(refused: &Refused<'_, '_>) -> Option<Mistake> {
+fn mistaken_before(refused: &RefusedText<'_, '_>) -> Option<Mistake> {
     let (before, line) = (refused.word_before(), refused.line_before());
     let (word, expected) = (keyword_named(before), refused.span.expected);
     let is_kept = matches!(word, Some(Keyword::Kept)) || is_word(b"persistent", before);
@@ -143,7 +143,7 @@ fn mistaken_in_unit(token: &[u8], next: Option<&Token<'_>>, expected: Expected) 
 }
 
 /// A mistake that an unexpected token shows, by the token after it.
-fn mistaken_token(refused: &Refused<'_, '_>) -> Mistake {
+fn mistaken_token(refused: &RefusedText<'_, '_>) -> Mistake {
     let (token, expected) = (refused.token(), refused.span.expected);
     let unit = mistaken_word(&UNITS, token, Case::NoUnit);
     match (expected, mistaken_in_unit(token, refused.next(), expected)) {
@@ -158,7 +158,7 @@ fn mistaken_token(refused: &Refused<'_, '_>) -> Mistake {
 }
 
 /// Whether a token is a comma between two digits, without spaces.
-fn is_decimal_comma(refused: &Refused<'_, '_>) -> bool {
+fn is_decimal_comma(refused: &RefusedText<'_, '_>) -> bool {
     let place = refused.span.start;
     refused.token().starts_with(b",")
         && refused.after().first().is_some_and(|next| {
@@ -168,7 +168,7 @@ fn is_decimal_comma(refused: &Refused<'_, '_>) -> bool {
 }
 
 /// A mistake in an instruction by what is before a token on its line.
-fn mistaken_after(refused: &Refused<'_, '_>) -> Option<Mistake> {
+fn mistaken_after(refused: &RefusedText<'_, '_>) -> Option<Mistake> {
     let (before, token) = (refused.line_before(), refused.token());
     let last = before.last();
     let is_unnamed = is_shape(last, Shape::Arrow) || is_shape(last, Shape::Assign);
@@ -187,7 +187,7 @@ fn mistaken_after(refused: &Refused<'_, '_>) -> Option<Mistake> {
 }
 
 /// A mistake that an unexpected token shows by its line.
-fn mistaken_on_line(refused: &Refused<'_, '_>) -> Option<Mistake> {
+fn mistaken_on_line(refused: &RefusedText<'_, '_>) -> Option<Mistake> {
     let (line, before) = (refused.line_before(), text_of(refused.previous()));
     let first = keyword_named(operator_on(line));
     let begins_unit = matches!(first, Some(Keyword::UnitStart(_)));
@@ -225,7 +225,7 @@ fn mistaken_on_line(refused: &Refused<'_, '_>) -> Option<Mistake> {
 }
 
 /// A mistake that an unexpected token shows by where it is, and else by itself.
-fn mistaken_at(refused: &Refused<'_, '_>) -> Mistake {
+fn mistaken_at(refused: &RefusedText<'_, '_>) -> Mistake {
     let word = left_out(refused.token());
     match (refused.span.expected, word.case) {
         (Expected::CommaOrColon, Case::Lasting) => word,
@@ -250,7 +250,7 @@ fn mistaken_address(address: &[u8]) -> Option<Mistake> {
 }
 
 /// What cannot be written.
-fn mistaken_target(refused: &Refused<'_, '_>) -> Option<Mistake> {
+fn mistaken_target(refused: &RefusedText<'_, '_>) -> Option<Mistake> {
     let target = refused.token();
     mistake_among! {
         (target.first(), keyword_named(target));
@@ -264,7 +264,7 @@ fn mistaken_target(refused: &Refused<'_, '_>) -> Option<Mistake> {
 }
 
 /// Whether a unit of the text declares a name.
-fn is_declared(refused: &Refused<'_, '_>, name: &[u8]) -> bool {
+fn is_declared(refused: &RefusedText<'_, '_>, name: &[u8]) -> bool {
     refused.units.iter().any(|unit| unit.declarations.iter().any(|declaration| {
         let mut names = declaration.names.iter();
         names.any(|word| word.text.eq_ignore_ascii_case(name))
@@ -272,7 +272,7 @@ fn is_declared(refused: &Refused<'_, '_>, name: &[u8]) -> bool {
 }
 
 /// A name that its unit does not declare: that of another one, of a block, or a number, a timer, an area or a duration of other tools.
-fn mistaken_undeclared(refused: &Refused<'_, '_>) -> Option<Mistake> {
+fn mistaken_undeclared(refused: &RefusedText<'_, '_>) -> Option<Mistake> {
     let name = refused.offending();
     let rest = following(name, 1);
     let is_number = !rest.is_empty() && rest.iter().all(|byte| byte.is_ascii_digit());
@@ -295,7 +295,7 @@ fn mistaken_undeclared(refused: &Refused<'_, '_>) -> Option<Mistake> {
 }
 
 /// A mistake in how a list or a unit ends, in a declaration, or in an instruction that breaks a rule on results, labels or divisors.
-fn mistaken_use(refused: &Refused<'_, '_>) -> Option<Mistake> {
+fn mistaken_use(refused: &RefusedText<'_, '_>) -> Option<Mistake> {
     let (token, span) = (refused.token(), refused.span);
     let word = keyword_named(token);
     let is_left = refused.number == 403
@@ -336,10 +336,10 @@ fn mistaken_use(refused: &Refused<'_, '_>) -> Option<Mistake> {
 }
 
 /// Which mistake a refusal refers to that breaks a rule in that way, with its words.
-pub fn mistake_at(refused: &Refused<'_, '_>, case: Case) -> Mistake {
+pub fn mistake_at(refused: &RefusedText<'_, '_>, case: Case) -> Mistake {
     let (token, before) = (refused.token(), refused.before());
     let rest = following(refused.lexeme, token.len());
-    let called = mistaken_function(token).map(|found| found.worded(201));
+    let called = mistaken_function(token).map(|found| found.with_words(201));
     let called = called.filter(|_| refused.is_called());
     let found = match (refused.number, refused.span.expected) {
         (101, _) => mistaken_byte(before, refused.span.start, refused.lexeme, case),
@@ -354,5 +354,7 @@ pub fn mistake_at(refused: &Refused<'_, '_>, case: Case) -> Mistake {
         (404, _) => mistaken_reset(refused).or(mistaken_target(refused)),
         _ => mistaken_use(refused),
     };
-    found.unwrap_or(Mistake::of(case)).worded(refused.number)
+    found
+        .unwrap_or(Mistake::of(case))
+        .with_words(refused.number)
 }

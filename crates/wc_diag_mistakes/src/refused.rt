@@ -11,10 +11,10 @@ use wc_lexer::{Shape, Token};
 use wc_model::{LONGEST_NAME, Unit, UnitKind};
 
 /// What is said with values of a text, if something is. The error is out of memory.
-pub type Said = Option<Result<String, AllocError>>;
+pub type Sentence = Option<Result<String, AllocError>>;
 
 /// What is said; no text, if nothing is.
-pub fn said_text(alloc: Global, said: Said) -> Result<String, AllocError> {
+pub fn said_text(alloc: Global, said: Sentence) -> Result<String, AllocError> {
     said.unwrap_or(Ok(String::new(alloc)))
 }
 
@@ -28,7 +28,7 @@ pub fn words(text: &[u8]) -> Option<&str> {
 
 /// A text that is refused, by its tokens and its tree.
 #[derive(Clone, Copy)]
-pub struct Refused<'a, 't> {
+pub struct RefusedText<'a, 't> {
     /// From which what is said of it takes its memory.
     pub alloc: Global,
     /// Its tokens; those before the malformed lexeme, if it has one.
@@ -55,7 +55,7 @@ fn count_before(tokens: &[Token<'_>], place: usize) -> usize
         .count()
 }
 
-impl<'a, 't> Refused<'a, 't> {
+impl<'a, 't> RefusedText<'a, 't> {
     /// A text with these tokens that is refused at a span of a tree, or of none.
     pub fn new(
         alloc: Global,
@@ -64,13 +64,13 @@ impl<'a, 't> Refused<'a, 't> {
         units: &'t [Unit<'a>],
         number: u16,
         span: RefusalSpan,
-    ) -> Refused<'a, 't>
+    ) -> RefusedText<'a, 't>
         ensures index { result.index ≡ count_before tokens.now span.start }
         ensures tokens { result.tokens.now ≡ tokens.now }
         ensures lexeme { result.lexeme.now ≡ lexeme.now }
         ensures span { result.span ≡ span }
     {
-        Refused {
+        RefusedText {
             alloc,
             tokens,
             index: count_before(tokens, span.start),

@@ -1,9 +1,9 @@
-use crate::refused::{Refused, Said, words};
+use crate::refused::{RefusedText, Sentence, words};
 use wc_built_in::{Keyword, keyword_named, standard_block};
 use wc_diag_stops::{is_among, is_digit, last_line, without_line_ends};
 use wc_diag_texts::{Case, Mistake, mistake_among};
 use wc_lexer::Token;
-use wc_model::{Kind, Operator, StandardBlock, Storing, is_word};
+use wc_model::{Kind, Operator, StandardBlock, StoreKind, is_word};
 
 /// What operators do, as far as types are asked: `family_of` has those of each.
 #[derive(Clone, Copy, PartialEq, Eq)]
@@ -26,8 +26,8 @@ pub(crate) enum Family {
 pub(crate) fn family_of(word: &[u8]) -> Family {
     match keyword_named(word) {
         Some(Keyword::Load(true)) => Family::Negate,
-        Some(Keyword::Store(Storing::Result)) => Family::Store,
-        Some(Keyword::Store(Storing::Negation)) => Family::StoreNegated,
+        Some(Keyword::Store(StoreKind::Result)) => Family::Store,
+        Some(Keyword::Store(StoreKind::Negation)) => Family::StoreNegated,
         Some(Keyword::Store(_)) => Family::Set,
         Some(Keyword::Apply(operator)) => match operator {
             Operator::Gt | Operator::Ge | Operator::Le | Operator::Lt => Family::Order,
@@ -99,7 +99,10 @@ fn mistaken_operand(case: Case, family: Family, before: Option<Kind>) -> Option<
 }
 
 /// What to write if types do not match, if that needs no operator.
-fn mistaken_without_operator(refused: &Refused<'_, '_>, before: Option<Kind>) -> Option<Mistake> {
+fn mistaken_without_operator(
+    refused: &RefusedText<'_, '_>,
+    before: Option<Kind>,
+) -> Option<Mistake> {
     let (span, is_passed) = (refused.span, refused.span.is_passed);
     mistake_among! {
         (span.case, before, span.outer.map(|made| made.kind));
@@ -117,7 +120,7 @@ fn mistaken_without_operator(refused: &Refused<'_, '_>, before: Option<Kind>) ->
 }
 
 /// What to write for a store to a timer or a counter, or to its output: what its call does.
-pub(crate) fn mistaken_reset(refused: &Refused<'_, '_>) -> Option<Mistake> {
+pub(crate) fn mistaken_reset(refused: &RefusedText<'_, '_>) -> Option<Mistake> {
     let block = standard_block(refused.word_at(refused.span.block)?.as_bytes());
     mistake_among! {
         block.filter(|_| refused.span.formal.is_none());
@@ -129,7 +132,7 @@ pub(crate) fn mistaken_reset(refused: &Refused<'_, '_>) -> Option<Mistake> {
 }
 
 /// What to write if types do not match: by the operator, the type of the operand and that of the result.
-pub(crate) fn mistaken_kind(refused: &Refused<'_, '_>) -> Option<Mistake> {
+pub(crate) fn mistaken_kind(refused: &RefusedText<'_, '_>) -> Option<Mistake> {
     let span = refused.span;
     let before = span.result.map(|made| made.kind);
     let operator = match span.case {
@@ -153,7 +156,7 @@ fn name_of(kind: Kind) -> &'static str {
 }
 
 /// An operand of another type than the result before it, or an operator that takes another one.
-fn result_said(refused: &Refused<'_, '_>, verb: &str, wanted: &str) -> Said {
+fn result_said(refused: &RefusedText<'_, '_>, verb: &str, wanted: &str) -> Sentence {
     let before = refused.span.result?;
     let (result, line) = (name_of(before.kind), before.line);
     Some(format!(in refused.alloc;
@@ -162,14 +165,14 @@ fn result_said(refused: &Refused<'_, '_>, verb: &str, wanted: &str) -> Said {
 }
 
 /// An operand that its operator never takes.
-fn untaken_said(refused: &Refused<'_, '_>, kind: Kind) -> Said {
+fn untaken_said(refused: &RefusedText<'_, '_>, kind: Kind) -> Sentence {
     let (operator, kind) = (words(refused.operator())?, name_of(kind));
     let taken = taken_by(family_of(refused.operator()))?;
     Some(format!(in refused.alloc; "is a {kind}, but {operator} takes {taken}"))
 }
 
 /// A parenthesis that ends with another type than the result before it.
-fn closing_said(refused: &Refused<'_, '_>) -> Said {
+fn closing_said(refused: &RefusedText<'_, '_>) -> Sentence {
     let (inside, outside) = (refused.span.result?, refused.span.outer?);
     let (ends, from) = (name_of(inside.kind), inside.line);
     let (before, line) = (name_of(outside.kind), outside.line);
@@ -179,7 +182,7 @@ fn closing_said(refused: &Refused<'_, '_>) -> Said {
 }
 
 /// A value for an input, or a target of an output, of another type.
-fn unpassed_said(refused: &Refused<'_, '_>, kind: Kind, wanted: Kind) -> Said {
+fn unpassed_said(refused: &RefusedText<'_, '_>, kind: Kind, wanted: Kind) -> Sentence {
     let (span, kind, formal) = (refused.span, name_of(kind), name_of(wanted));
     let (name, block) = (refused.word_at(span.formal)?, refused.block()?);
     let what = if span.is_passed { "input" } else { "output" };
@@ -187,7 +190,7 @@ fn unpassed_said(refused: &Refused<'_, '_>, kind: Kind, wanted: Kind) -> Said {
 }
 
 /// A name that a block does not have, or has otherwise.
-fn name_said(refused: &Refused<'_, '_>, case: Case) -> Said {
+fn name_said(refused: &RefusedText<'_, '_>, case: Case) -> Sentence {
     let block = refused.block()?;
     let is_passed = refused.span.is_passed;
     let (is, more) = match case {
@@ -202,7 +205,7 @@ fn name_said(refused: &Refused<'_, '_>, case: Case) -> Said {
 }
 
 /// What is said of a difference, if more is known than the case.
-pub fn difference_said(refused: &Refused<'_, '_>, case: Case) -> Said {
+pub fn difference_said(refused: &RefusedText<'_, '_>, case: Case) -> Sentence {
     match (refused.number, refused.span.case) {
         (401 | 409, _) => name_said(refused, case),
         (402, Case::Unlike(kind)) => result_said(refused, "is a", name_of(kind)),

@@ -4,7 +4,7 @@ use Rattle.wc_diag_places.proofs.Positions.{earlier_there, first_before, item_fa
 use Rattle.wc_diag_places.specs.Arguments.{IsArgument, IsArgumentAt, IsFirstBrokenOf, KeepsNames, RuleIs, argument_count, argument_from, broken_at, means_name}
 use Rattle.wc_diag_places.specs.OperandTokens.{begins_item, is_shape, list_end, tokens_at}
 use Rattle.wc_diag_places.specs.Lists.{AreListed, IsListedAs, item_after, item_at, operand_in, text_at}
-use Rattle.wc_diag_places.specs.declared.arguments.Broken.{Broken}
+use Rattle.wc_diag_places.specs.declared.arguments.BrokenItem.{BrokenItem}
 use Rattle.wc_diag_places.specs.declared.arguments.Item.{Item}
 use Rattle.wc_lexer.specs.declared.shape.Shape.TheVariants.{Closing}
 use Rattle.wc_lexer.specs.declared.shape.Token.{Token}
@@ -192,15 +192,15 @@ all_looked_at tables unit declared tokens names item n so_far all scope type lin
     let here = ap (λ (one : Item). one.name) so_far.here in omega (arith, all, far, within, here)) is num listed first
 
 -- what is found is one of a number
-abbrev item_or : Item → Option Broken → Item
+abbrev item_or : Item → Option BrokenItem → Item
 item_or other None = other
 item_or other (Some broken) = broken.item
 
-abbrev number_or : ℕ → Option Broken → ℕ
+abbrev number_or : ℕ → Option BrokenItem → ℕ
 number_or other None = other
 number_or other (Some broken) = broken.number
 
-pub same_broken : (found : Option Broken) (broken : Broken) (item : Item) (number : ℕ) → found ≡ Some broken → found ≡ Some (record { item = item; number = number })
+pub same_broken : (found : Option BrokenItem) (broken : BrokenItem) (item : Item) (number : ℕ) → found ≡ Some broken → found ≡ Some (record { item = item; number = number })
     → (broken.item ≡ item) × (broken.number ≡ number)
 same_broken found broken item number here there = (ap (item_or item) (sym here ∙ there), ap (number_or number) (sym here ∙ there))
 

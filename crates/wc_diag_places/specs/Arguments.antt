@@ -2,7 +2,7 @@
 use Rattle.std.specs.Prelude.{◌≡◌, ◌<◌, ◌==◌, ◌||◌, ℕ, Bool, true, List, ◌∷◌, Option, Some, None, slice_get, if◌then◌else◌}
 use Rattle.wc_diag_places.specs.OperandTokens.{tokens_at}
 use Rattle.wc_diag_places.specs.Lists.{AreListed, IsListedAs, item_at, text_at}
-use Rattle.wc_diag_places.specs.declared.arguments.Broken.{Broken}
+use Rattle.wc_diag_places.specs.declared.arguments.BrokenItem.{BrokenItem}
 use Rattle.wc_diag_places.specs.declared.arguments.Item.{Item}
 use Rattle.wc_lexer.specs.declared.shape.Token.{Token}
 use Rattle.wc_model.specs.Definitions.{argument_checks, is_instance, Member, VariableType, members_of, Name, name_of, Scope, type_of, Assignment}
@@ -36,7 +36,7 @@ pub record IsFirstBrokenOf (scope : Scope) (line : ℕ) (members : List Member) 
       → broken_at scope line members earlier ≡ None
 
 -- what is found in the list of a call of an instance of that type is the one that breaks a rule first, and its rule
-abbrev pub FindsBroken : Tables → ℕ → DeclaredType → List Token → Option Broken → Type 0
+abbrev pub FindsBroken : Tables → ℕ → DeclaredType → List Token → Option BrokenItem → Type 0
 FindsBroken tables unit declared tokens found =
     (scope : Scope) (type : VariableType) (line k number : ℕ) (arguments : List Assignment)
     → IsScope tables unit scope → numbered_type scope.before type ≡ Some declared → AreListed tokens arguments

@@ -97,7 +97,7 @@ pub(crate) fn text_at<'a>(tokens: &[Token<'a>], index: usize) -> &'a [u8]
 
 /// One of a call's list that breaks a rule, with the number of the rule.
 #[derive(Clone, Copy)]
-pub(crate) struct Broken {
+pub(crate) struct BrokenItem {
     pub(crate) item: Item,
     pub(crate) number: u16,
 }
@@ -139,7 +139,7 @@ pub(crate) fn first_broken_argument<'a>(
     unit: usize,
     declared: DeclaredType,
     tokens: &[Token<'a>],
-) -> Result<Option<Broken>, Fault>
+) -> Result<Option<BrokenItem>, Fault>
     ensures { IfOk result (λ found. FindsBroken tables.now unit declared tokens.now found) }
 {
     let mut names = Names::new(alloc);
@@ -151,7 +151,7 @@ pub(crate) fn first_broken_argument<'a>(
         }
         let found = broken_rule(&mut names, tables, unit, declared, tokens, item)?;
         if let Some(number) = found {
-            return Ok(Some(Broken { item, number }));
+            return Ok(Some(BrokenItem { item, number }));
         }
         item = item_after(tokens, item.end);
     }

@@ -4,7 +4,7 @@ ghost use Rattle.wc_diag_places.specs.OperandTokens.{IsOfCall, begins_item, list
 ghost use Rattle.wc_model.specs.Language.Scopes.{Scope};
 ghost use Rattle.wc_verify.specs.Seeing.{IsScope};
 
-use crate::arguments::{Broken, first_broken_argument, item_after, text_at};
+use crate::arguments::{BrokenItem, first_broken_argument, item_after, text_at};
 use crate::kinds::{entity_in, is_bit};
 use crate::operand_tokens::{case_of_operand, line_at, list_end, operator_of, tokens_at};
 use std::alloc::Global;
@@ -80,7 +80,7 @@ fn case_of_argument<'a>(
     unit: usize,
     declared: DeclaredType,
     tokens: &[Token<'a>],
-    broken: Broken,
+    broken: BrokenItem,
 ) -> Case {
     let (item, name) = (broken.item, text_at(tokens, broken.item.name));
     let operand = tokens_at(tokens, item.value, item.count);
@@ -105,7 +105,7 @@ fn offending_argument<'a>(
     unit: usize,
     declared: DeclaredType,
     tokens: &[Token<'a>],
-    broken: Broken,
+    broken: BrokenItem,
 ) -> InCall
     ensures from { result.from ≡ argument_from broken.number broken.item }
     ensures count { result.count ≡ argument_count broken.number broken.item }

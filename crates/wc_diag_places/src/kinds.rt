@@ -7,10 +7,10 @@ use crate::operand_tokens::{is_closing, opens};
 use wc_built_in::{takes, takes_truth};
 use wc_diag_texts::Case;
 use wc_lexer::{Shape, Token};
-use wc_model::{Kind, Operand, Storing};
+use wc_model::{Kind, Operand, StoreKind};
 use wc_names::{DeclaredType, Entity, Tables};
 use wc_text_bodies::operand_of;
-use wc_text_lines::{Operating, Operation, operation_of};
+use wc_text_lines::{OperandOperator, Operation, operation_of};
 
 /// The operand that some tokens are: one alone, or a name with a field.
 pub(crate) fn operand_in<'a>(operand_tokens: &[Token<'a>]) -> Option<Operand<'a>>
@@ -41,12 +41,15 @@ pub(crate) fn is_bit(operand_tokens: &[Token<'_>]) -> bool {
 }
 
 /// What does not fit if an operand of a kind follows its operator.
-fn unfit_operand(operating: Operating, kind: Kind, is_bit: bool) -> Case {
+fn unfit_operand(operating: OperandOperator, kind: Kind, is_bit: bool) -> Case {
     match operating {
-        Operating::Applies(operator) if takes(operator, kind) => Case::Unlike(kind),
-        Operating::Applies(operator) if is_bit && takes_truth(operator) => Case::Result,
-        Operating::Loads(false) | Operating::Stores(Storing::Result) => Case::Unlike(kind),
-        Operating::Loads(_) | Operating::Stores(_) if kind == Kind::Bool => Case::Unlike(kind),
+        OperandOperator::Applies(operator) if takes(operator, kind) => Case::Unlike(kind),
+        OperandOperator::Applies(operator) if is_bit && takes_truth(operator) => Case::Result,
+        OperandOperator::Loads(false) | OperandOperator::Stores(StoreKind::Result) => Case::Unlike(
+            kind,
+        ),
+        OperandOperator::Loads(_) | OperandOperator::Stores(_) if kind == Kind::Bool =>
+            Case::Unlike(kind),
         _ => Case::Untaken(kind),
     }
 }

@@ -5,7 +5,7 @@ use std::alloc::{AllocError, Global};
 use std::fmt::Write;
 use toml::Value;
 use toml::de::Error;
-use wc_diag_mistakes::{Said, said_text};
+use wc_diag_mistakes::{Sentence, said_text};
 use wc_diag_stops::{bytes_at, following};
 use wc_plate::{BrokenRule, allows_interval, plate_of};
 
@@ -98,7 +98,7 @@ fn key_of(rule: BrokenRule<'_>) -> &'static str {
 }
 
 /// Which values a rule on values allows, if its number does not say it.
-fn advice_of(alloc: Global, rule: BrokenRule<'_>) -> Said {
+fn advice_of(alloc: Global, rule: BrokenRule<'_>) -> Sentence {
     match rule {
         BrokenRule::Interval { unit, decimals } => Some(interval_advice(alloc, unit, decimals)),
         BrokenRule::Load { e } => {

@@ -10,7 +10,7 @@ use std::alloc::{AllocError, Global};
 use wc_built_in::{Keyword, keyword_named, standard_block};
 use wc_diag_advice::advice_at;
 use wc_diag_mistakes::{
-    Refused, Said, block_line, difference_said, follows_leaving, is_unreached, mistake_at,
+    RefusedText, Sentence, block_line, difference_said, follows_leaving, is_unreached, mistake_at,
     said_text, words,
 };
 use wc_diag_places::{SpannedSource, read_by_places, span_in};
@@ -36,7 +36,7 @@ fn case_of_token(token: &[u8], expected: Expected) -> Case {
 }
 
 /// In which way a rule is broken at the slice of a text.
-fn case_at(refused: &Refused<'_, '_>) -> Case {
+fn case_at(refused: &RefusedText<'_, '_>) -> Case {
     let (number, token, span) = (refused.number, refused.token(), refused.span);
     match number {
         101..=107 => case_of_lexeme(number, refused.lexeme, token),
@@ -68,7 +68,7 @@ fn character_length(text: &[u8]) -> usize {
 }
 
 /// The number of bytes of a slice that are quoted: none if its sentence is given alone.
-fn quoted_length(refused: &Refused<'_, '_>, spoken: Case, sentence: Option<&str>) -> usize {
+fn quoted_length(refused: &RefusedText<'_, '_>, spoken: Case, sentence: Option<&str>) -> usize {
     let span = refused.span;
     match (refused.number, spoken) {
         (101, Case::ByteOrderMark) => BYTE_ORDER_MARK.len(),
@@ -97,7 +97,7 @@ fn open_since(tokens: &[Token<'_>]) -> Option<u32> {
 }
 
 /// What follows the sentence of a refusal on a line: which parenthesis is open, where the first of two is.
-fn detail_of(refused: &Refused<'_, '_>) -> Said {
+fn detail_of(refused: &RefusedText<'_, '_>) -> Sentence {
     match (refused.number, refused.span.first) {
         (205, _) => {
             let line = open_since(refused.before())?;
@@ -124,7 +124,7 @@ fn words_brought(tokens: &[Token<'_>], path: PathToLabel) -> &'static str {
 }
 
 /// Which paths to the label before the slice bring what, if that is sure.
-fn label_said(refused: &Refused<'_, '_>) -> Said {
+fn label_said(refused: &RefusedText<'_, '_>) -> Sentence {
     let (tokens, found) = (refused.tokens, refused.label_before()?);
     let label = words(found.text).unwrap_or("");
     let paths = match refused.span.paths {
@@ -144,7 +144,7 @@ fn label_said(refused: &Refused<'_, '_>) -> Said {
 }
 
 /// What is said in place of the sentence, with the available values.
-fn said_there(refused: &Refused<'_, '_>, case: Case, mistake: Case) -> Said {
+fn said_there(refused: &RefusedText<'_, '_>, case: Case, mistake: Case) -> Sentence {
     match mistake {
         Case::LabelAbove => {
             let line = refused.span.first;
@@ -162,7 +162,7 @@ fn said_there(refused: &Refused<'_, '_>, case: Case, mistake: Case) -> Said {
 }
 
 /// What is said in place of the sentence, of an offending slice on a line below.
-fn said_below(refused: &Refused<'_, '_>, line: u32, sentence: &str) -> Said {
+fn said_below(refused: &RefusedText<'_, '_>, line: u32, sentence: &str) -> Sentence {
     let word = str::from_utf8(refused.offending()).unwrap_or("");
     let (point, field) = match words(refused.field()) {
         Some(field) => (".", field),
@@ -172,7 +172,11 @@ fn said_below(refused: &Refused<'_, '_>, line: u32, sentence: &str) -> Said {
 }
 
 /// What is said in place of the sentence, also of an offending slice on a line below.
-fn said_of(refused: &Refused<'_, '_>, said: Said, sentence: Option<&'static str>) -> Said {
+fn said_of(
+    refused: &RefusedText<'_, '_>,
+    said: Sentence,
+    sentence: Option<&'static str>,
+) -> Sentence {
     let Some(below) = refused.span.below else {
         return said;
     };
@@ -184,7 +188,10 @@ fn said_of(refused: &Refused<'_, '_>, said: Said, sentence: Option<&'static str>
 }
 
 /// Says what is wrong with a slice of a text: what is found is the number of bytes to quote.
-fn say_of_span(diagnostic: &mut Diagnostic, refused: &Refused<'_, '_>) -> Result<usize, AllocError>
+fn say_of_span(
+    diagnostic: &mut Diagnostic,
+    refused: &RefusedText<'_, '_>,
+) -> Result<usize, AllocError>
     ensures span { diagnostic.new.span ≡ diagnostic.old.span }
     ensures line { diagnostic.new.line ≡ diagnostic.old.line }
 {
@@ -214,7 +221,7 @@ fn say_of_span(diagnostic: &mut Diagnostic, refused: &Refused<'_, '_>) -> Result
 fn point_to_span(
     diagnostic: &mut Diagnostic,
     text: &[u8],
-    refused: &Refused<'_, '_>,
+    refused: &RefusedText<'_, '_>,
 ) -> Result<(), AllocError>
     ensures span { diagnostic.new.span
         ≡ Some (record {
@@ -268,7 +275,7 @@ fn find_stop(
     // What can't be cut into tokens goes on from the malformed lexeme.
     let rest = if number < 200 { span.start } else { text.len() };
     let lexeme = following(text, rest);
-    let refused = Refused::new(alloc, &stopped.tokens, lexeme, &[], number, span);
+    let refused = RefusedText::new(alloc, &stopped.tokens, lexeme, &[], number, span);
     point_to_span(diagnostic, text, &refused)
 }
 
@@ -288,7 +295,7 @@ fn find_later_fault<'a>(
     let Some(span) = fault_of(span_in(alloc, read), number, diagnostic.line)? else {
         return Ok(());
     };
-    let refused = Refused::new(alloc, &read.tokens, b"", &read.source.units, number, span);
+    let refused = RefusedText::new(alloc, &read.tokens, b"", &read.source.units, number, span);
     point_to_span(diagnostic, text, &refused)
 }
 

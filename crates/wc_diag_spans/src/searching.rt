@@ -12,7 +12,7 @@ use crate::refusal::{Evidence, Refusal};
 use crate::rows::{report_row, shown_row};
 use std::alloc::{AllocError, Global};
 use wc_diag_advice::watched_advice;
-use wc_diag_mistakes::{Said, said_text};
+use wc_diag_mistakes::{Sentence, said_text};
 use wc_diag_places::{SpannedSource, read_by_places};
 use wc_diag_stops::{bytes_at, first_word};
 use wc_job::Input;
@@ -123,7 +123,7 @@ fn find_text(alloc: Global, refusal: &Refusal<'_>, text: &[u8]) -> Result<Diagno
 }
 
 /// Which variable of a program a watched name may be, if it can be read, one is near, and it does not have the first word of the name.
-fn name_advice(alloc: Global, read: &Result<SpannedSource<'_>, Fault>, name: &[u8]) -> Said {
+fn name_advice(alloc: Global, read: &Result<SpannedSource<'_>, Fault>, name: &[u8]) -> Sentence {
     let read = match read {
         Ok(read) => read,
         Err(Fault::Memory) => return Some(Err(AllocError)),

@@ -1,7 +1,7 @@
 -- What could come where a text can't go on: what the walk moves on with from its state. (The
 -- profile's own.)
 use Rattle.std.specs.Prelude.{◌==◌, ℕ, List, [], ◌∷◌, if◌then◌else◌}
-use Rattle.wc_laws_grammar.specs.{OperandOf, OfArgument, InList, AtFirst, AtNext, AtAssign, AtValue, AtEnd, LineState, Start, Worded, Labelled, Operated, Jumped, Called, Instanced, Listing, Bracketed, Named, Pointed, InDeclaration, Undeclared, AfterNames, AfterComma, AfterColon, AfterType, AfterAssign, AfterValue, State, Outside, Unnamed, Declaring, AtLine, OnLine, Closed, has_program, Operating, Applies}
+use Rattle.wc_laws_grammar.specs.{OperandOf, OfArgument, InList, AtFirst, AtNext, AtAssign, AtValue, AtEnd, LineState, Start, Worded, Labelled, Operated, Jumped, Called, Instanced, Listing, Bracketed, Named, Pointed, InDeclaration, Undeclared, AfterNames, AfterComma, AfterColon, AfterType, AfterAssign, AfterValue, State, Outside, Unnamed, Declaring, AtLine, OnLine, Closed, has_program, OperandOperator, Applies}
 use Rattle.wc_model.specs.Text.Positions.{Opening}
 use Rattle.wc_diag_texts.specs.declared.expected.Expected.{Expected}
 use Rattle.wc_diag_texts.specs.declared.expected.Expected.TheVariants as expected
@@ -25,7 +25,7 @@ allowed_in_list (AtValue formal) = expected.Operand
 allowed_in_list AtEnd = expected.CommaOrClosing
 
 -- after an operator that takes an operand
-abbrev pub allowed_after_operator : Operating → Expected
+abbrev pub allowed_after_operator : OperandOperator → Expected
 allowed_after_operator (Applies operator) = expected.OperandOrOpening
 allowed_after_operator _ = expected.Operand
 

@@ -10,7 +10,7 @@ ghost use Rattle.wc_reader.specs.TextViews.{line_place_view, reading_view};
 use wc_diag_texts::Expected;
 use wc_reader::{LinePlace, Progress, TextState, has_program};
 use wc_text_bodies::{Body, DeclarationState};
-use wc_text_lines::{InLine, InList, LineShape, LineState, OperandOf, Operating};
+use wc_text_lines::{InLine, InList, LineShape, LineState, OperandOf, OperandOperator};
 
 /// In a section of declarations.
 fn in_declaration(state: &DeclarationState) -> Expected
@@ -46,8 +46,9 @@ fn in_instruction(state: &InLine) -> Expected
         ≡ allowed_on_line (in_line_view started state.now) }
 {
     match state {
-        InLine::Operated(Operating::Applies(_)) => Expected::OperandOrOpening,
-        InLine::Operated(Operating::Loads(_) | Operating::Stores(_)) => Expected::Operand,
+        InLine::Operated(OperandOperator::Applies(_)) => Expected::OperandOrOpening,
+        InLine::Operated(OperandOperator::Loads(_) | OperandOperator::Stores(_)) =>
+            Expected::Operand,
         InLine::Jumped(_) => Expected::Label,
         InLine::Called(_) => Expected::Instance,
         InLine::Instanced(..) => Expected::OpeningOrLineEnd,

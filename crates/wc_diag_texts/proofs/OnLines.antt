@@ -2,7 +2,7 @@
 use Rattle.std.proofs.Common.{◌≡◌, ◌∙◌, ◌==◌, ◌&&◌, ◌||◌, ◌<◌, not, Bool, true, false, List, [], ◌∷◌, ℕ, ◌++◌, if◌then◌else◌, refl, sym, ap, arith, Result, Ok, Err, OnOk}
 use Rattle.wc_model.proofs.Common.{and_parts, nat_tests, IsUtf8-append, IsUtf8-from_ascii, IsUtf8-from_is_utf8, is_utf8-from_IsUtf8, IsAscii-cons, IsAscii-nil, list_all, is_utf8}
 use Rattle.std.proofs.lemmas.List.{append-nil, flat_map_more}
-use Rattle.wc_diag_texts.specs.Plain.{IsShown, acts, escaped_text, is_calm, is_control, is_plain, passes, shown_text, spaced, with_spaces}
+use Rattle.wc_diag_texts.specs.Plain.{IsShown, acts, escaped_text, is_calm, is_control, is_plain, passes, shown_text, space_for_tab, with_spaces}
 
 -- more of them after these
 pub shown_further : (old new text : List ℕ) → IsShown old → new ≡ old ++ shown_text text → IsShown new
@@ -48,7 +48,7 @@ not_control control other rest e f = grind arith
 tab_is_control : (byte : ℕ) → (byte == 9) ≡ true → is_control byte ≡ true
 tab_is_control byte e = grind (arith, nat_tests)
 
-not_spaced : (byte : ℕ) → ((byte == 9) ≡ true → ⊥) → spaced byte ≡ byte
+not_spaced : (byte : ℕ) → ((byte == 9) ≡ true → ⊥) → space_for_tab byte ≡ byte
 not_spaced byte other =
     elim (byte == 9) as (λ v. (v ≡ true → ⊥) → (if v then 32 else byte) ≡ byte) [
       | true ↦ λ f. absurd (f refl)

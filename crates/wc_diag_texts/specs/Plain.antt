@@ -76,11 +76,11 @@ abbrev pub passes : List ℕ → Bool
 passes bytes = is_calm bytes && is_utf8 bytes
 
 -- a tab as a space
-abbrev pub spaced : ℕ → ℕ
-spaced byte = if byte == 9 then 32 else byte
+abbrev pub space_for_tab : ℕ → ℕ
+space_for_tab byte = if byte == 9 then 32 else byte
 
 abbrev pub with_spaces : List ℕ → List ℕ
-with_spaces bytes = map spaced bytes
+with_spaces bytes = map space_for_tab bytes
 
 -- a hexadecimal digit
 abbrev pub hex_digit : ℕ → ℕ

@@ -19,7 +19,7 @@ pub use case::Case;
 pub use catalogue::{Entry, entry_of, warning_of};
 pub use expected::{Expected, words_of};
 pub use format::Format;
-pub use message::{Message, shown};
+pub use message::{Message, shown_text};
 pub use mistakes::{Mistake, hint_of, sentence_of};
 pub use paths::{Paths, empty_path_advice, paths_text};
 pub use plain::{characters, column_of, passes, with_spaces};

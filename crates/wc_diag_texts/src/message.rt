@@ -216,7 +216,7 @@ impl Message {
 
 /// Bytes as they are shown on one line: as they are with spaces for tabs, if they are UTF-8 on which no terminal acts; else printable
 /// ASCII as it is, and any other byte as `\x` and two digits.
-pub fn shown(alloc: Global, text: &[u8]) -> Result<Message, AllocError>
+pub fn shown_text(alloc: Global, text: &[u8]) -> Result<Message, AllocError>
     ensures { IfOk result (λ message. message.bytes.items ≡ shown_text text.now) }
 {
     let mut message = Message::new(alloc);

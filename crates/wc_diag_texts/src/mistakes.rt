@@ -66,7 +66,7 @@ pub fn sentence_of(number: u16, case: Case) -> Option<&'static str>
         return None;
     }
     let (sentence, _) = words_in(number, case);
-    said(either(sentence, entry.quoted))
+    non_empty(either(sentence, entry.quoted))
 }
 
 /// What to write in place of what a refusal of that number refuses in that case; nothing if the number's own hint says all.
@@ -74,11 +74,11 @@ pub fn hint_of(number: u16, case: Case) -> Option<&'static str>
     ensures { IsSome result → is_refusal number ≡ true }
 {
     let _entry = entry_of(number)?;
-    said(words_in(number, case).1)
+    non_empty(words_in(number, case).1)
 }
 
 /// A text, if it is one.
-fn said(text: &'static str) -> Option<&'static str> {
+fn non_empty(text: &'static str) -> Option<&'static str> {
     if text.is_empty() { None } else { Some(text) }
 }
 
@@ -174,7 +174,7 @@ impl Mistake {
     }
 
     /// The mistake in a refusal of that number, also with the words of its case.
-    pub fn worded(mut self, number: u16) -> Mistake {
+    pub fn with_words(mut self, number: u16) -> Mistake {
         let (sentence, hint) = words_in(number, self.case);
         self.sentence = either(self.sentence, sentence);
         self.hint = either(self.hint, hint);

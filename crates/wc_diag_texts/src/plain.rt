@@ -1,6 +1,6 @@
 ghost use Rattle.std.specs.Prelude.{◌≡◌, ◌≤◌, IfOk, length};
 ghost use Rattle.std.specs.Str.{is_utf8};
-ghost use Rattle.wc_diag_texts.specs.Plain.{characters, column_of, is_calm, is_control, passes, spaced, starts_acting, with_spaces};
+ghost use Rattle.wc_diag_texts.specs.Plain.{characters, column_of, is_calm, is_control, passes, space_for_tab, starts_acting, with_spaces};
 
 use crate::acting::hidden_length;
 use std::alloc::{AllocError, Global};
@@ -72,8 +72,8 @@ pub fn passes(bytes: &[u8]) -> bool
 }
 
 /// A tab as a space.
-fn spaced(byte: u8) -> u8
-    ensures { result ≡ spaced byte }
+fn space_for_tab(byte: u8) -> u8
+    ensures { result ≡ space_for_tab byte }
 {
     if byte == b'\t' { b' ' } else { byte }
 }
@@ -84,7 +84,7 @@ pub fn with_spaces(alloc: Global, text: &[u8]) -> Result<Vec<u8>, AllocError>
 {
     let mut bytes = Vec::new(alloc);
     for byte in text {
-        bytes.push(spaced(*byte))?;
+        bytes.push(space_for_tab(*byte))?;
     }
     Ok(bytes)
 }

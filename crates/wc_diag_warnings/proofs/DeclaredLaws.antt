@@ -7,9 +7,9 @@ use Rattle.wc_model.specs.declared.source.Section.{Section}
 use Rattle.wc_model.specs.declared.source.Section.TheVariants.{Input, Output, Own}
 use Rattle.wc_model.specs.declared.source.UnitKind.{UnitKind}
 use Rattle.wc_model.specs.declared.source.UnitKind.TheVariants.{FunctionBlock, Program}
-use Rattle.wc_diag_warnings.specs.{Happening, IsPlain, IsInstance, IsAlone, of_var, of_program, IsWarned, unused, only_written, input_not_read, only_read, not_called, output_not_written, no_time, EachDeclaredWarningIsSo, is_called, is_given, is_read, is_written, declared_number, instance_number, is_timer, use_number, variable_number}
+use Rattle.wc_diag_warnings.specs.{BodyEvent, IsPlain, IsInstance, IsAlone, of_var, of_program, IsWarned, unused, only_written, input_not_read, only_read, not_called, output_not_written, no_time, EachDeclaredWarningIsSo, is_called, is_given, is_read, is_written, declared_number, instance_number, is_timer, use_number, variable_number}
 
-module _ (events : List Happening) (v : Variable) where
+module _ (events : List BodyEvent) (v : Variable) where
   -- what a number says, if there is one
   abbrev Says : UnitKind → Option ℕ → Type 0
   Says kind None = Unit {0}

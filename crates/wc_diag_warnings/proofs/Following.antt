@@ -6,29 +6,29 @@ use Rattle.wc_model.specs.Definitions.{same_name, Name}
 use Rattle.wc_model.specs.declared.operator.Condition.{Condition}
 use Rattle.wc_names.specs.Keys.{name_of_key, same_key}
 use Rattle.wc_names.specs.declared.key.Key.{Key}
-use Rattle.wc_diag_warnings.specs.{doing_jumps, doing_leaves, is_on, Source, AreFrom, IsFollowed, is_from, leads, marks, starts, Happening, deed_view}
+use Rattle.wc_diag_warnings.specs.{action_jumps, action_leaves, is_on, Source, AreFrom, IsFollowed, is_from, leads, marks, starts, BodyEvent, action_view}
 use Rattle.wc_diag_warnings.specs.declared.edges.Ahead.{Ahead}
-use Rattle.wc_diag_warnings.specs.declared.events.Deed.{Deed}
-use Rattle.wc_diag_warnings.specs.declared.events.Deed.TheVariants.{Jump}
+use Rattle.wc_diag_warnings.specs.declared.events.Action.{Action as CodeAction}
+use Rattle.wc_diag_warnings.specs.declared.events.Action.TheVariants.{Jump}
 use Rattle.wc_diag_warnings.specs.declared.edges.Paths.{Paths}
 
 -- the paths to an event go on to the next one, and to the label to which it jumps
-pub followed_more : (before : List Happening) (e : Happening) (old new : Ahead) (paths : Paths) → IsFollowed before old → AreFrom paths before e →
-    ((source : Source) → is_from new.next source ≡ (not (doing_leaves e.doing) && (is_from paths source || marks source e))) →
-    ((source : Source) (key : Key) → leads new.labels (name_of_key key) source ≡ ((is_from paths source && doing_jumps e.doing (name_of_key key)) || leads old.labels (name_of_key key) source)) →
+pub followed_more : (before : List BodyEvent) (e : BodyEvent) (old new : Ahead) (paths : Paths) → IsFollowed before old → AreFrom paths before e →
+    ((source : Source) → is_from new.next source ≡ (not (action_leaves e.action) && (is_from paths source || marks source e))) →
+    ((source : Source) (key : Key) → leads new.labels (name_of_key key) source ≡ ((is_from paths source && action_jumps e.action (name_of_key key)) || leads old.labels (name_of_key key) source)) →
     IsFollowed (e ∷ before) new
 followed_more before e old new paths so_far from goes led = record {
-  next = λ source. goes source ∙ ap (λ b. not (doing_leaves e.doing) && (b || marks source e)) (from source);
+  next = λ source. goes source ∙ ap (λ b. not (action_leaves e.action) && (b || marks source e)) (from source);
   labels = λ source key.
-      let jumps = doing_jumps e.doing (name_of_key key) in
+      let jumps = action_jumps e.action (name_of_key key) in
       led source key ∙ ap (λ b. (b && jumps) || leads old.labels (name_of_key key) source) (from source)
       ∙ ap (λ b. (is_on (starts source) (marks source) before e && jumps) || b) (so_far.labels source key);
 }
 
 -- what is no jump leads to no label
-pub not_led : (deed : Deed) → ((condition : Condition) (label : Bor (List ℕ)) → deed ≡ Jump condition label → ⊥) → (name : Name) (from led : Bool) → led ≡ ((from && doing_jumps (deed_view deed) name) || led)
+pub not_led : (action : CodeAction) → ((condition : Condition) (label : Bor (List ℕ)) → action ≡ Jump condition label → ⊥) → (name : Name) (from led : Bool) → led ≡ ((from && action_jumps (action_view action) name) || led)
 not_led (Jump condition label) other name from led = absurd (other condition label refl)
-not_led deed other name from led = grind arith
+not_led action other name from led = grind arith
 
 -- paths that are kept, or none
 kept_is : (none : Paths) (source : Source) (kept : Option Paths) → is_from none source ≡ false → is_from (unwrap_or kept none) source ≡ option_map_or (λ paths. is_from paths source) kept false

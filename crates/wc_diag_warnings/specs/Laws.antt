@@ -7,22 +7,22 @@ use Rattle.wc_model.specs.declared.source.Section.TheVariants.{Input, Output, Ow
 use Rattle.wc_model.specs.declared.source.UnitKind.{UnitKind}
 use Rattle.wc_model.specs.declared.source.UnitKind.TheVariants.{FunctionBlock, Program}
 use Rattle.wc_diag_warnings.specs.Uses.{reads_valid, reads_weight, stores, is_called, is_given, is_read, is_written}
-use Rattle.wc_diag_warnings.specs.Events.{Begins, Labels, Happening}
+use Rattle.wc_diag_warnings.specs.Events.{Begins, Labels, BodyEvent}
 use Rattle.wc_diag_warnings.specs.Warnings.{declared_number, is_above_reached, is_timer, number_at}
-use Rattle.wc_diag_warnings.specs.Paths.{doing_jumps, doing_leaves, is_on}
+use Rattle.wc_diag_warnings.specs.Paths.{action_jumps, action_leaves, is_on}
 
 -- A run comes to an event after those before it, newest first. It begins at the body's start or at a marked
 -- event; it goes on to the next event, unless that before always leaves; and from a jump to a label ahead.
-pub data IsWay (starts : Bool) (marks : Happening → Bool) : List Happening → Happening → Type 0 where
-  at_start : (e : Happening) → starts ≡ true → IsWay starts marks [] e
-  from_mark : (before : List Happening) (last e : Happening) → marks last ≡ true → doing_leaves last.doing ≡ false → IsWay starts marks (last ∷ before) e
-  onward : (before : List Happening) (last e : Happening) → IsWay starts marks before last → doing_leaves last.doing ≡ false → IsWay starts marks (last ∷ before) e
-  by_jump : (all between before : List Happening) (jump e : Happening) (name : Name) → all ≡ between ++ jump ∷ before → IsWay starts marks before jump →
-      doing_jumps jump.doing name ≡ true → e.doing ≡ Labels name → IsWay starts marks all e
+pub data IsWay (starts : Bool) (marks : BodyEvent → Bool) : List BodyEvent → BodyEvent → Type 0 where
+  at_start : (e : BodyEvent) → starts ≡ true → IsWay starts marks [] e
+  from_mark : (before : List BodyEvent) (last e : BodyEvent) → marks last ≡ true → action_leaves last.action ≡ false → IsWay starts marks (last ∷ before) e
+  onward : (before : List BodyEvent) (last e : BodyEvent) → IsWay starts marks before last → action_leaves last.action ≡ false → IsWay starts marks (last ∷ before) e
+  by_jump : (all between before : List BodyEvent) (jump e : BodyEvent) (name : Name) → all ≡ between ++ jump ∷ before → IsWay starts marks before jump →
+      action_jumps jump.action name ≡ true → e.action ≡ Labels name → IsWay starts marks all e
 
 -- what is computed of the paths to an event is so
 abbrev pub EdgesAreThere : Type 0
-EdgesAreThere = (starts : Bool) (marks : Happening → Bool) (before : List Happening) (e : Happening) → (is_on starts marks before e ≡ true) ↔ IsWay starts marks before e
+EdgesAreThere = (starts : Bool) (marks : BodyEvent → Bool) (before : List BodyEvent) (e : BodyEvent) → (is_on starts marks before e ≡ true) ↔ IsWay starts marks before e
 
 -- a variable that is not an instance, and one that is
 abbrev pub IsPlain : Variable → Type 0
@@ -37,7 +37,7 @@ pub data IsAlone (v : Variable) : UnitKind → Type 0 where
   of_program : IsAlone v Program
 
 -- which warning a declared name has
-pub data IsWarned (events : List Happening) (v : Variable) : UnitKind → ℕ → Type 0 where
+pub data IsWarned (events : List BodyEvent) (v : Variable) : UnitKind → ℕ → Type 0 where
   unused : (kind : UnitKind) → IsPlain v → IsAlone v kind → is_read events v.name ≡ false → is_written events v.name ≡ false → IsWarned events v kind 1
   only_written : (kind : UnitKind) → IsPlain v → IsAlone v kind → is_read events v.name ≡ false → is_written events v.name ≡ true → IsWarned events v kind 2
   input_not_read : IsPlain v → v.section ≡ Input → is_read events v.name ≡ false → IsWarned events v FunctionBlock 2
@@ -49,14 +49,14 @@ pub data IsWarned (events : List Happening) (v : Variable) : UnitKind → ℕ �
 
 -- a declared name has a warning of that number exactly then
 abbrev pub EachDeclaredWarningIsSo : Type 0
-EachDeclaredWarningIsSo = (kind : UnitKind) (events : List Happening) (v : Variable) (number : ℕ) → (declared_number kind events v ≡ Some number) ↔ IsWarned events v kind number
+EachDeclaredWarningIsSo = (kind : UnitKind) (events : List BodyEvent) (v : Variable) (number : ℕ) → (declared_number kind events v ≡ Some number) ↔ IsWarned events v kind number
 
 -- which warning an event of a body has, after those before it
-pub data IsNoted (numbers : List ℕ) (events before : List Happening) (e : Happening) : ℕ → Type 0 where
-  not_reached : e.doing ≡ Begins → ¬ (IsWay true (λ any. false) before e) → is_above_reached before ≡ true → IsNoted numbers events before e 7
+pub data IsNoted (numbers : List ℕ) (events before : List BodyEvent) (e : BodyEvent) : ℕ → Type 0 where
+  not_reached : e.action ≡ Begins → ¬ (IsWay true (λ any. false) before e) → is_above_reached before ≡ true → IsNoted numbers events before e 7
   stored_again : (prefix back : List ℕ) (output : ℕ) → numbers ≡ prefix ++ output ∷ back → stores output e ≡ true → IsWay false (stores output) before e → IsNoted numbers events before e 8
   unasked : reads_weight e ≡ true → list_any reads_valid events ≡ false → list_any reads_weight before ≡ false → IsNoted numbers events before e 9
 
 -- an event has a warning of that number exactly then
 abbrev pub EachEventWarningIsSo : Type 0
-EachEventWarningIsSo = (numbers : List ℕ) (events before : List Happening) (e : Happening) (number : ℕ) → (number_at numbers events before e ≡ Some number) ↔ IsNoted numbers events before e number
+EachEventWarningIsSo = (numbers : List ℕ) (events before : List BodyEvent) (e : BodyEvent) (number : ℕ) → (number_at numbers events before e ≡ Some number) ↔ IsNoted numbers events before e number

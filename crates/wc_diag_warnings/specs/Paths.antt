@@ -9,49 +9,49 @@ use Rattle.wc_model.specs.declared.operator.Condition.TheVariants.{Always}
 use Rattle.indexmap.specs.IndexMap.{IndexMap, get_by}
 use Rattle.wc_names.specs.Keys.{name_of_key}
 use Rattle.wc_names.specs.declared.key.Key.{Key}
-use Rattle.wc_diag_warnings.specs.Events.{Doing, Labels, Jumps, Returns, Happening}
+use Rattle.wc_diag_warnings.specs.Events.{Action, Labels, Jumps, Returns, BodyEvent}
 use Rattle.wc_diag_warnings.specs.Uses.{stores}
 use Rattle.wc_diag_warnings.specs.declared.edges.Ahead.{Ahead}
 use Rattle.wc_diag_warnings.specs.declared.edges.Paths.{Paths}
 
 -- no run goes on from it to the next event
-abbrev pub doing_leaves : Doing → Bool
-doing_leaves (Jumps Always label) = true
-doing_leaves (Returns Always) = true
-doing_leaves doing = false
+abbrev pub action_leaves : Action → Bool
+action_leaves (Jumps Always label) = true
+action_leaves (Returns Always) = true
+action_leaves action = false
 
-abbrev pub doing_jumps : Doing → Name → Bool
-doing_jumps (Jumps condition label) name = same_name label name
-doing_jumps doing name = false
+abbrev pub action_jumps : Action → Name → Bool
+action_jumps (Jumps condition label) name = same_name label name
+action_jumps action name = false
 
 -- an event, and whether there is a path to it
 pub record Passed : Type 0 where
-  pub event : Happening
+  pub event : BodyEvent
   pub on : Bool
 
 -- a path comes from the event right before, or begins there; or the body's start is one
-abbrev pub comes_down : Bool → (Happening → Bool) → List Passed → Bool
+abbrev pub comes_down : Bool → (BodyEvent → Bool) → List Passed → Bool
 comes_down starts marks [] = starts
-comes_down starts marks (last ∷ earlier) = not (doing_leaves last.event.doing) && (last.on || marks last.event)
+comes_down starts marks (last ∷ earlier) = not (action_leaves last.event.action) && (last.on || marks last.event)
 
 -- a path comes by a jump to a label that is here
-abbrev pub comes_by_jump : List Passed → Doing → Bool
-comes_by_jump earlier (Labels name) = list_any (λ jump. jump.on && doing_jumps jump.event.doing name) earlier
-comes_by_jump earlier doing = false
+abbrev pub comes_by_jump : List Passed → Action → Bool
+comes_by_jump earlier (Labels name) = list_any (λ jump. jump.on && action_jumps jump.event.action name) earlier
+comes_by_jump earlier action = false
 
-abbrev pub arrives : Bool → (Happening → Bool) → List Passed → Happening → Bool
-arrives starts marks earlier e = comes_down starts marks earlier || comes_by_jump earlier e.doing
+abbrev pub arrives : Bool → (BodyEvent → Bool) → List Passed → BodyEvent → Bool
+arrives starts marks earlier e = comes_down starts marks earlier || comes_by_jump earlier e.action
 
-abbrev pub passed : Bool → (Happening → Bool) → List Happening → List Passed
+abbrev pub passed : Bool → (BodyEvent → Bool) → List BodyEvent → List Passed
 passed starts marks [] = []
 passed starts marks (e ∷ before) = let earlier = passed starts marks before in record { event = e; on = arrives starts marks earlier e } ∷ earlier
 
 -- there is a path to an event after these
-abbrev pub is_on : Bool → (Happening → Bool) → List Happening → Happening → Bool
+abbrev pub is_on : Bool → (BodyEvent → Bool) → List BodyEvent → BodyEvent → Bool
 is_on starts marks before e = arrives starts marks (passed starts marks before) e
 
 -- a run comes to it from the body's start
-abbrev pub is_reached : List Happening → Happening → Bool
+abbrev pub is_reached : List BodyEvent → BodyEvent → Bool
 is_reached before e = is_on true (λ any. false) before e
 
 -- the body's start, or the stores of the output of a number
@@ -63,7 +63,7 @@ abbrev pub starts : Source → Bool
 starts Start = true
 starts (Store output) = false
 
-abbrev pub marks : Source → Happening → Bool
+abbrev pub marks : Source → BodyEvent → Bool
 marks Start e = false
 marks (Store output) e = stores output e
 
@@ -72,7 +72,7 @@ is_store number Start = false
 is_store number (Store output) = nat_eq output number
 
 -- the events before, newest first, each with whether a path comes to it from there
-abbrev pub edges : Source → List Happening → List Passed
+abbrev pub edges : Source → List BodyEvent → List Passed
 edges source before = passed (starts source) (marks source) before
 
 -- one of the paths comes from there
@@ -81,7 +81,7 @@ is_from paths Start = paths.started
 is_from paths (Store output) = nat_eq (bit_at paths.stored output) 1
 
 -- these are the paths to an event after those before
-abbrev pub AreFrom : Paths → List Happening → Happening → Type 0
+abbrev pub AreFrom : Paths → List BodyEvent → BodyEvent → Type 0
 AreFrom paths before e = (source : Source) → is_from paths source ≡ is_on (starts source) (marks source) before e
 
 -- one of the paths that are kept for a label comes from there
@@ -89,6 +89,6 @@ abbrev pub leads : {S : Type 0} → IndexMap Key Paths S → Name → Source →
 leads labels name source = option_map_or (λ paths. is_from paths source) (get_by (λ key. same_name (name_of_key key) name) labels) false
 
 -- the paths that go on from the events before, newest first: to the next, and to labels
-pub record IsFollowed (before : List Happening) (ahead : Ahead) : Type 0 where
+pub record IsFollowed (before : List BodyEvent) (ahead : Ahead) : Type 0 where
   pub next : (source : Source) → is_from ahead.next source ≡ comes_down (starts source) (marks source) (edges source before)
   pub labels : (source : Source) (key : Key) → leads ahead.labels (name_of_key key) source ≡ comes_by_jump (edges source before) (Labels (name_of_key key))

@@ -8,58 +8,58 @@ use Rattle.wc_model.specs.Language.Tree.{Load, Store, Apply, Negate, Jump, Call,
 use Rattle.wc_model.specs.declared.tree.Instr.{Instr, out-Instr}
 use Rattle.wc_model.specs.declared.tree.Instr.TheOpen.{Instr-F}
 use Rattle.wc_model.specs.declared.tree.Line.{Line}
-use Rattle.wc_diag_warnings.specs.Events.{Doing, Begins, Labels, Reads, Stores, Sets, Calls, Gives, Jumps, Returns, Happening, at}
-use Rattle.wc_diag_warnings.specs.Uses.{Used, doing_calls, doing_gives, doing_reads, doing_writes}
-use Rattle.wc_diag_warnings.specs.Warnings.{Caution}
-use Rattle.wc_diag_warnings.specs.declared.events.Deed.{Deed}
-use Rattle.wc_diag_warnings.specs.declared.events.Deed.TheVariants as deeds
+use Rattle.wc_diag_warnings.specs.Events.{Action, Begins, Labels, Reads, Stores, Sets, Calls, Gives, Jumps, Returns, BodyEvent, at}
+use Rattle.wc_diag_warnings.specs.Uses.{Used, action_calls, action_gives, action_reads, action_writes}
+use Rattle.wc_diag_warnings.specs.Warnings.{WarningAt}
+use Rattle.wc_diag_warnings.specs.declared.events.Action.{Action as CodeAction}
+use Rattle.wc_diag_warnings.specs.declared.events.Action.TheVariants as actions
 use Rattle.wc_diag_warnings.specs.declared.events.Event.{Event}
 use Rattle.wc_diag_warnings.specs.declared.used.Uses.{Uses}
 use Rattle.wc_diag_warnings.specs.declared.used.Use.{Use}
 use Rattle.wc_diag_warnings.specs.declared.used.Use.TheVariants.{Read, Written, Called, Given}
 use Rattle.wc_diag_warnings.specs.declared.warning.Warning.{Warning}
 
-abbrev pub deed_view : Deed → Doing
-deed_view deeds.Begin = Begins
-deed_view (deeds.Label name) = Labels (name_of name.now)
-deed_view (deeds.Read operand) = Reads (term_view operand)
-deed_view (deeds.Store target) = Stores (term_view target)
-deed_view (deeds.Set target) = Sets (term_view target)
-deed_view (deeds.Call instance) = Calls (name_of instance.now)
-deed_view (deeds.Give instance input) = Gives (name_of instance.now) (name_of input.now)
-deed_view (deeds.Jump condition label) = Jumps condition (name_of label.now)
-deed_view (deeds.Return condition) = Returns condition
+abbrev pub action_view : CodeAction → Action
+action_view actions.Begin = Begins
+action_view (actions.Label name) = Labels (name_of name.now)
+action_view (actions.Read operand) = Reads (term_view operand)
+action_view (actions.Store target) = Stores (term_view target)
+action_view (actions.Set target) = Sets (term_view target)
+action_view (actions.Call instance) = Calls (name_of instance.now)
+action_view (actions.Give instance input) = Gives (name_of instance.now) (name_of input.now)
+action_view (actions.Jump condition label) = Jumps condition (name_of label.now)
+action_view (actions.Return condition) = Returns condition
 
--- the event of a deed, if there is one
-abbrev pub deed_events : ℕ → Option Deed → List Happening
-deed_events line deed = option_map_or (λ one. at line (deed_view one) ∷ []) deed []
+-- the event of a action, if there is one
+abbrev pub action_events : ℕ → Option CodeAction → List BodyEvent
+action_events line action = option_map_or (λ one. at line (action_view one) ∷ []) action []
 
-abbrev pub event_view : Event → Happening
-event_view event = record { line = event.line; doing = deed_view event.deed }
+abbrev pub event_view : Event → BodyEvent
+event_view event = record { line = event.line; action = action_view event.action }
 
-abbrev pub events_view : List Event → List Happening
+abbrev pub events_view : List Event → List BodyEvent
 events_view events = map event_view events
 
 -- these are added to the events
-abbrev pub Adds : (old new : List Event) → List Happening → Type 0
+abbrev pub Adds : (old new : List Event) → List BodyEvent → Type 0
 Adds old new added = events_view new ≡ events_view old ++ added
 
-abbrev pub warning_view : Warning → Caution
+abbrev pub warning_view : Warning → WarningAt
 warning_view warning = record { number = warning.number; line = warning.line; name = name_of warning.name.now }
 
-abbrev pub warnings_view : List Warning → List Caution
+abbrev pub warnings_view : List Warning → List WarningAt
 warnings_view warnings = map warning_view warnings
 
 -- these are added to the warnings
-abbrev pub Warns : (old new : List Warning) → List Caution → Type 0
+abbrev pub Warns : (old new : List Warning) → List WarningAt → Type 0
 Warns old new added = warnings_view new ≡ warnings_view old ++ added
 
 -- the event uses the name so
-abbrev pub does : Use → Doing → Name → Bool
-does Read doing name = doing_reads doing name
-does Written doing name = doing_writes doing name
-does Called doing name = doing_calls doing name
-does Given doing name = doing_gives doing name (codes "pt")
+abbrev pub does : Use → Action → Name → Bool
+does Read action name = action_reads action name
+does Written action name = action_writes action name
+does Called action name = action_calls action name
+does Given action name = action_gives action name (codes "pt")
 
 -- what is done with a name, by the names that are kept
 abbrev pub uses_view : Uses → Name → Used

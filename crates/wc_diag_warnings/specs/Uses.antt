@@ -4,7 +4,7 @@ use Rattle.std.specs.Option.{option_map_or}
 use Rattle.std.specs.List.{list_any}
 use Rattle.wc_model.specs.Definitions.{DirectVariable, InputBit, StatusBit, Weight, OutputBit, OutputWord, direct_variables, is_output, variable_at, same_name, Name}
 use Rattle.wc_model.specs.Language.Tree.{Term, Address, Variable, Field}
-use Rattle.wc_diag_warnings.specs.Events.{Doing, Reads, Stores, Happening, Sets, Calls, Gives}
+use Rattle.wc_diag_warnings.specs.Events.{Action, Reads, Stores, BodyEvent, Sets, Calls, Gives}
 
 -- the place of a variable in the order of all
 abbrev pub number_of : DirectVariable → ℕ
@@ -32,23 +32,23 @@ abbrev pub is_direct : (DirectVariable → Bool) → Term → Bool
 is_direct test (Address word) = is_such test (variable_at word.name)
 is_direct test term = false
 
-abbrev pub doing_stores : (DirectVariable → Bool) → Doing → Bool
-doing_stores test (Stores term) = is_direct test term
-doing_stores test doing = false
+abbrev pub action_stores : (DirectVariable → Bool) → Action → Bool
+action_stores test (Stores term) = is_direct test term
+action_stores test action = false
 
-abbrev pub doing_asks : (DirectVariable → Bool) → Doing → Bool
-doing_asks test (Reads term) = is_direct test term
-doing_asks test doing = false
+abbrev pub action_asks : (DirectVariable → Bool) → Action → Bool
+action_asks test (Reads term) = is_direct test term
+action_asks test action = false
 
 -- the event stores the variable of that number; it reads a weight; it reads `%IX1.5`
-abbrev pub stores : ℕ → Happening → Bool
-stores number e = doing_stores (λ variable. nat_eq (number_of variable) number) e.doing
+abbrev pub stores : ℕ → BodyEvent → Bool
+stores number e = action_stores (λ variable. nat_eq (number_of variable) number) e.action
 
-abbrev pub reads_weight : Happening → Bool
-reads_weight e = doing_asks is_weight e.doing
+abbrev pub reads_weight : BodyEvent → Bool
+reads_weight e = action_asks is_weight e.action
 
-abbrev pub reads_valid : Happening → Bool
-reads_valid e = doing_asks is_valid_bit e.doing
+abbrev pub reads_valid : BodyEvent → Bool
+reads_valid e = action_asks is_valid_bit e.action
 
 -- the numbers of the outputs
 abbrev pub outputs : List ℕ
@@ -59,37 +59,37 @@ abbrev pub is_variable : Term → Name → Bool
 is_variable (Variable name) other = same_name name other
 is_variable term other = false
 
-abbrev pub doing_reads : Doing → Name → Bool
-doing_reads (Reads term) name = is_variable term name
-doing_reads doing name = false
+abbrev pub action_reads : Action → Name → Bool
+action_reads (Reads term) name = is_variable term name
+action_reads action name = false
 
-abbrev pub doing_writes : Doing → Name → Bool
-doing_writes (Stores term) name = is_variable term name
-doing_writes (Sets term) name = is_variable term name
-doing_writes doing name = false
+abbrev pub action_writes : Action → Name → Bool
+action_writes (Stores term) name = is_variable term name
+action_writes (Sets term) name = is_variable term name
+action_writes action name = false
 
-abbrev pub doing_calls : Doing → Name → Bool
-doing_calls (Calls instance) name = same_name instance name
-doing_calls doing name = false
+abbrev pub action_calls : Action → Name → Bool
+action_calls (Calls instance) name = same_name instance name
+action_calls action name = false
 
 -- an input is given by a call's list, or stored as a field
-abbrev pub doing_gives : Doing → Name → Name → Bool
-doing_gives (Gives instance given) name input = same_name instance name && same_name given input
-doing_gives (Stores (Field instance field)) name input = same_name instance name && same_name field input
-doing_gives doing name input = false
+abbrev pub action_gives : Action → Name → Name → Bool
+action_gives (Gives instance given) name input = same_name instance name && same_name given input
+action_gives (Stores (Field instance field)) name input = same_name instance name && same_name field input
+action_gives action name input = false
 
 -- some event reads or writes the variable, calls the instance, gives it that input
-abbrev pub is_read : List Happening → Name → Bool
-is_read events name = list_any (λ e. doing_reads e.doing name) events
+abbrev pub is_read : List BodyEvent → Name → Bool
+is_read events name = list_any (λ e. action_reads e.action name) events
 
-abbrev pub is_written : List Happening → Name → Bool
-is_written events name = list_any (λ e. doing_writes e.doing name) events
+abbrev pub is_written : List BodyEvent → Name → Bool
+is_written events name = list_any (λ e. action_writes e.action name) events
 
-abbrev pub is_called : List Happening → Name → Bool
-is_called events name = list_any (λ e. doing_calls e.doing name) events
+abbrev pub is_called : List BodyEvent → Name → Bool
+is_called events name = list_any (λ e. action_calls e.action name) events
 
-abbrev pub is_given : List Happening → Name → Name → Bool
-is_given events name input = list_any (λ e. doing_gives e.doing name input) events
+abbrev pub is_given : List BodyEvent → Name → Name → Bool
+is_given events name input = list_any (λ e. action_gives e.action name input) events
 
 -- it is that name, if there is one
 abbrev pub is_this : Option Name → Name → Bool
@@ -103,7 +103,7 @@ pub record Used : Type 0 where
   pub given : Bool
 
 -- what events do with a name; what a timer is given is its PT
-abbrev pub used_in : List Happening → Name → Used
+abbrev pub used_in : List BodyEvent → Name → Used
 used_in events name = record {
   read = is_read events name;
   written = is_written events name;

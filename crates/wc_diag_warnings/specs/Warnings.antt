@@ -14,19 +14,19 @@ use Rattle.wc_model.specs.declared.source.Section.TheVariants.{Input, Output, Ow
 use Rattle.wc_model.specs.declared.source.UnitKind.{UnitKind}
 use Rattle.wc_model.specs.declared.source.UnitKind.TheVariants.{FunctionBlock, Program}
 use Rattle.wc_diag_warnings.specs.Uses.{outputs, reads_valid, reads_weight, stores, Used, used_in}
-use Rattle.wc_diag_warnings.specs.Events.{Doing, Begins, Reads, Stores, Happening, events_of}
+use Rattle.wc_diag_warnings.specs.Events.{Action, Begins, Reads, Stores, BodyEvent, events_of}
 use Rattle.wc_diag_warnings.specs.Paths.{is_on, is_reached}
 
 -- a warning: its number, its line, and the name of which it is; no name for lines that no run reaches
-pub record Caution : Type 0 where
+pub record WarningAt : Type 0 where
   pub number : ℕ
   pub line : ℕ
   pub name : Name
 
 -- the warning of that number, if there is one
-abbrev pub caution : Option ℕ → ℕ → Name → List Caution
-caution None line name = []
-caution (Some number) line name = record { number = number; line = line; name = name } ∷ []
+abbrev pub warning_at : Option ℕ → ℕ → Name → List WarningAt
+warning_at None line name = []
+warning_at (Some number) line name = record { number = number; line = line; name = name } ∷ []
 
 -- a variable of a body that is used by it alone: whether it is read, and written, and has a first value
 abbrev pub use_number : Bool → Bool → Bool → Option ℕ
@@ -59,31 +59,31 @@ number_by kind uses v = elim (named_in elementary_types v.type_name) [
 ]
 
 -- in a unit of that kind with these events
-abbrev pub declared_number : UnitKind → List Happening → Variable → Option ℕ
+abbrev pub declared_number : UnitKind → List BodyEvent → Variable → Option ℕ
 declared_number kind events v = number_by kind (used_in events) v
 
-abbrev pub variable_cautions : UnitKind → (Name → Used) → Variable → List Caution
-variable_cautions kind uses v = caution (number_by kind uses v) v.line v.name
+abbrev pub variable_warnings : UnitKind → (Name → Used) → Variable → List WarningAt
+variable_warnings kind uses v = warning_at (number_by kind uses v) v.line v.name
 
 -- an instruction begins
-abbrev pub doing_begins : Doing → Bool
-doing_begins Begins = true
-doing_begins doing = false
+abbrev pub action_begins : Action → Bool
+action_begins Begins = true
+action_begins action = false
 
 -- the last instruction before is reached, or there is none
-abbrev pub is_above_reached : List Happening → Bool
+abbrev pub is_above_reached : List BodyEvent → Bool
 is_above_reached [] = true
-is_above_reached (e ∷ before) = if doing_begins e.doing then is_reached before e else is_above_reached before
+is_above_reached (e ∷ before) = if action_begins e.action then is_reached before e else is_above_reached before
 
-abbrev pub begins_stretch : List Happening → Happening → Bool
-begins_stretch before e = doing_begins e.doing && is_above_reached before && not (is_reached before e)
+abbrev pub begins_stretch : List BodyEvent → BodyEvent → Bool
+begins_stretch before e = action_begins e.action && is_above_reached before && not (is_reached before e)
 
 -- it stores an output that is stored on a path to it
-abbrev pub is_stored_again : List ℕ → List Happening → Happening → Bool
+abbrev pub is_stored_again : List ℕ → List BodyEvent → BodyEvent → Bool
 is_stored_again numbers before e = list_any (λ output. is_on false (stores output) before e && stores output e) numbers
 
 -- it reads a weight, none is read before, and the validity nowhere
-abbrev pub is_unasked : List Happening → List Happening → Happening → Bool
+abbrev pub is_unasked : List BodyEvent → List BodyEvent → BodyEvent → Bool
 is_unasked events before e = reads_weight e && not (list_any reads_valid events || list_any reads_weight before)
 
 abbrev pub event_number : Bool → Bool → Bool → Option ℕ
@@ -93,35 +93,35 @@ event_number false false true = Some 9
 event_number false false false = None
 
 -- the address that an event reads or stores
-abbrev pub address_of : Doing → Name
+abbrev pub address_of : Action → Name
 address_of (Reads (Address word)) = word.name
 address_of (Stores (Address word)) = word.name
-address_of doing = []
+address_of action = []
 
 -- the number of an event's warning, after those before it
-abbrev pub number_at : List ℕ → List Happening → List Happening → Happening → Option ℕ
+abbrev pub number_at : List ℕ → List BodyEvent → List BodyEvent → BodyEvent → Option ℕ
 number_at numbers events before e = event_number (begins_stretch before e) (is_stored_again numbers before e) (is_unasked events before e)
 
-abbrev pub event_cautions : List ℕ → List Happening → Position Happening → List Caution
-event_cautions numbers events position = caution (number_at numbers events position.before position.item) position.item.line (address_of position.item.doing)
+abbrev pub event_warnings : List ℕ → List BodyEvent → Position BodyEvent → List WarningAt
+event_warnings numbers events position = warning_at (number_at numbers events position.before position.item) position.item.line (address_of position.item.action)
 
 -- addresses are in the program alone
 abbrev pub outputs_in : UnitKind → List ℕ
 outputs_in FunctionBlock = []
 outputs_in Program = outputs
 
-abbrev pub declared_cautions : UnitKind → (Name → Used) → List Variable → List Caution
-declared_cautions kind uses variables = flat_map (variable_cautions kind uses) variables
+abbrev pub declared_warnings : UnitKind → (Name → Used) → List Variable → List WarningAt
+declared_warnings kind uses variables = flat_map (variable_warnings kind uses) variables
 
-abbrev pub all_event_cautions : List ℕ → List Happening → List Caution
-all_event_cautions numbers events = flat_map (event_cautions numbers events) (positions_of events)
+abbrev pub all_event_warnings : List ℕ → List BodyEvent → List WarningAt
+all_event_warnings numbers events = flat_map (event_warnings numbers events) (positions_of events)
 
-abbrev pub body_cautions : UnitKind → List Happening → List Caution
-body_cautions kind events = all_event_cautions (outputs_in kind) events
+abbrev pub body_warnings : UnitKind → List BodyEvent → List WarningAt
+body_warnings kind events = all_event_warnings (outputs_in kind) events
 
-abbrev pub unit_cautions : ProgramUnit → List Caution
-unit_cautions unit = declared_cautions unit.kind (used_in (events_of unit.body)) (variables_of unit) ++ body_cautions unit.kind (events_of unit.body)
+abbrev pub unit_warnings : ProgramUnit → List WarningAt
+unit_warnings unit = declared_warnings unit.kind (used_in (events_of unit.body)) (variables_of unit) ++ body_warnings unit.kind (events_of unit.body)
 
 -- the warnings of a text
-abbrev pub warnings : Text → List Caution
-warnings text = flat_map unit_cautions text
+abbrev pub warnings : Text → List WarningAt
+warnings text = flat_map unit_warnings text

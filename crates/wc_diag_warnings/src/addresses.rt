@@ -6,7 +6,7 @@ ghost use Rattle.wc_model.specs.Definitions.{DirectVariable, term_view};
 ghost use Rattle.wc_diag_warnings.specs.Uses.{is_direct, is_such, reads_valid, reads_weight, stores};
 ghost use Rattle.wc_diag_warnings.specs.Seen.{event_view};
 
-use crate::events::{Deed, Event};
+use crate::events::{Action, Event};
 use wc_built_in::variable_at;
 use wc_model::Operand;
 
@@ -26,13 +26,13 @@ fn direct_of(operand: &Operand<'_>) -> Option<u8>
 }
 
 /// The number of the directly represented variable that the event stores.
-pub(crate) fn stored(event: &Event<'_>) -> Option<u8>
+pub(crate) fn stored_variable(event: &Event<'_>) -> Option<u8>
     ensures number { (number : ℕ)
         → option_map_or (nat_eq number) result false ≡ stores number (event_view event.now) }
     ensures small { IfSome result (λ number. number < 45) }
 {
-    match &event.deed {
-        Deed::Store(target) => direct_of(target),
+    match &event.action {
+        Action::Store(target) => direct_of(target),
         _ => None,
     }
 }
@@ -41,8 +41,8 @@ pub(crate) fn stored(event: &Event<'_>) -> Option<u8>
 pub(crate) fn reads_weight(event: &Event<'_>) -> bool
     ensures { result ≡ reads_weight (event_view event.now) }
 {
-    match &event.deed {
-        Deed::Read(operand) => matches!(direct_of(operand), Some(22..=24)),
+    match &event.action {
+        Action::Read(operand) => matches!(direct_of(operand), Some(22..=24)),
         _ => false,
     }
 }
@@ -51,8 +51,8 @@ pub(crate) fn reads_weight(event: &Event<'_>) -> bool
 fn reads_valid(event: &Event<'_>) -> bool
     ensures { result ≡ reads_valid (event_view event.now) }
 {
-    match &event.deed {
-        Deed::Read(operand) => direct_of(operand) == Some(21),
+    match &event.action {
+        Action::Read(operand) => direct_of(operand) == Some(21),
         _ => false,
     }
 }

@@ -1,32 +1,32 @@
 ghost use Rattle.std.specs.Prelude.{◌≡◌, ◌<◌, nat_eq, not, ◌&&◌, if◌then◌else◌, List, OnOk};
 ghost use Rattle.std.specs.List.{list_any};
 ghost use Rattle.wc_model.specs.Language.Names.{name_of};
-ghost use Rattle.wc_diag_warnings.specs.Events.{Happening};
+ghost use Rattle.wc_diag_warnings.specs.Events.{BodyEvent};
 ghost use Rattle.wc_diag_warnings.specs.Paths.{AreFrom};
 ghost use Rattle.wc_diag_warnings.specs.Seen.{event_view, events_view, Warns};
-ghost use Rattle.wc_diag_warnings.specs.Warnings.{address_of, body_cautions, doing_begins, event_number, is_stored_again, outputs_in};
+ghost use Rattle.wc_diag_warnings.specs.Warnings.{address_of, body_warnings, action_begins, event_number, is_stored_again, outputs_in};
 
-use crate::addresses::{FIRST_OUTPUT, is_asked, reads_weight, stored};
+use crate::addresses::{FIRST_OUTPUT, is_asked, reads_weight, stored_variable};
 use crate::declared::warn;
 use crate::edges::{Paths, at_start, follow, is_stored, paths_to};
-use crate::events::{Deed, Event};
+use crate::events::{Action, Event};
 use crate::warning::Warning;
 use std::alloc::{AllocError, Global};
 use wc_model::{Operand, UnitKind};
 
 /// Whether an instruction begins.
 fn begins(event: &Event<'_>) -> bool
-    ensures { result ≡ doing_begins (event_view event.now).doing }
+    ensures { result ≡ action_begins (event_view event.now).action }
 {
-    matches!(event.deed, Deed::Begin)
+    matches!(event.action, Action::Begin)
 }
 
 /// The address that the event reads or stores; empty if it does neither.
 fn address_of<'a>(event: &Event<'a>) -> &'a [u8]
-    ensures { name_of result.now ≡ address_of (event_view event.now).doing }
+    ensures { name_of result.now ≡ address_of (event_view event.now).action }
 {
-    match event.deed {
-        Deed::Read(Operand::Address(word)) | Deed::Store(Operand::Address(word)) => word.text,
+    match event.action {
+        Action::Read(Operand::Address(word)) | Action::Store(Operand::Address(word)) => word.text,
         _ => b"",
     }
 }
@@ -86,10 +86,10 @@ fn is_output(kind: UnitKind, number: u8) -> bool
 
 /// Whether the event stores an output that is stored on a path to it.
 fn is_again(kind: UnitKind, event: &Event<'_>, paths: Paths) -> bool
-    ensures { (before : List Happening) → AreFrom paths before (event_view event.now)
+    ensures { (before : List BodyEvent) → AreFrom paths before (event_view event.now)
         → result ≡ is_stored_again (outputs_in kind) before (event_view event.now) }
 {
-    match stored(event) {
+    match stored_variable(event) {
         Some(number) => is_output(kind, number) & is_stored(paths, number),
         None => false,
     }
@@ -103,7 +103,7 @@ pub(crate) fn warn_body<'a>(
     events: &[Event<'a>],
 ) -> Result<(), AllocError>
     ensures added { OnOk result (Warns warnings.old.items warnings.new.items
-        (body_cautions kind (events_view events.now))) }
+        (body_warnings kind (events_view events.now))) }
 {
     let mut ahead = at_start(alloc);
     let mut above = true;

@@ -1,7 +1,7 @@
 ghost use Rattle.std.specs.Prelude.{◌≡◌, OnOk};
 ghost use Rattle.wc_model.specs.Definitions.{declared_by, variables_of, name_of, declaration_view, unit_view};
 ghost use Rattle.wc_diag_warnings.specs.Seen.{uses_view, variable_view, Warns};
-ghost use Rattle.wc_diag_warnings.specs.Warnings.{caution, declared_cautions, instance_number, is_timer, number_by, use_number, variable_number};
+ghost use Rattle.wc_diag_warnings.specs.Warnings.{warning_at, declared_warnings, instance_number, is_timer, number_by, use_number, variable_number};
 
 use crate::used::Uses;
 use crate::warning::Warning;
@@ -93,7 +93,7 @@ pub(crate) fn warn<'a>(
     name: &'a [u8],
 ) -> Result<(), AllocError>
     ensures added { OnOk result (Warns warnings.old.items warnings.new.items
-        (caution number line (name_of name.now))) }
+        (warning_at number line (name_of name.now))) }
 {
     match number {
         Some(number) => Ok(warnings.push(Warning { number, line, name })?),
@@ -109,7 +109,7 @@ fn warn_declaration<'a>(
     uses: &Uses<'_>,
 ) -> Result<(), AllocError>
     ensures added { OnOk result (Warns warnings.old.items warnings.new.items
-        (declared_cautions kind (uses_view uses.now)
+        (declared_warnings kind (uses_view uses.now)
         (declared_by (declaration_view declaration.now)))) }
 {
     for word in &declaration.names {
@@ -126,7 +126,7 @@ pub(crate) fn warn_declared<'a>(
     uses: &Uses<'_>,
 ) -> Result<(), AllocError>
     ensures added { OnOk result (Warns warnings.old.items warnings.new.items
-        (declared_cautions unit.now.kind (uses_view uses.now)
+        (declared_warnings unit.now.kind (uses_view uses.now)
         (variables_of (unit_view unit.now)))) }
 {
     for declaration in &unit.declarations {

@@ -2,12 +2,12 @@ ghost use Rattle.std.specs.Prelude.{◌≡◌, IfOk, OnOk, IsOkUnless};
 ghost use Rattle.wc_model.specs.Definitions.{variables_of, text_view, unit_view};
 ghost use Rattle.wc_diag_warnings.specs.Seen.{events_view, warnings_view, Warns};
 ghost use Rattle.wc_diag_warnings.specs.Uses.{used_in};
-ghost use Rattle.wc_diag_warnings.specs.Warnings.{declared_cautions, unit_cautions, warnings};
+ghost use Rattle.wc_diag_warnings.specs.Warnings.{declared_warnings, unit_warnings, warnings};
 
 use crate::body::warn_body;
 use crate::declared::warn_declared;
 use crate::events::{Event, events_of};
-use crate::used::{fill, unused};
+use crate::used::{fill, no_uses};
 use crate::warning::Warning;
 use std::alloc::{AllocError, Global};
 use wc_model::{Fault, Source, Unit};
@@ -20,10 +20,10 @@ fn warn_names<'a>(
     events: &[Event<'a>],
 ) -> Result<(), AllocError>
     ensures added { OnOk result (Warns warnings.old.items warnings.new.items
-        (declared_cautions unit.now.kind (used_in (events_view events.now))
+        (declared_warnings unit.now.kind (used_in (events_view events.now))
         (variables_of (unit_view unit.now)))) }
 {
-    let mut uses = unused(alloc);
+    let mut uses = no_uses(alloc);
     fill(&mut uses, events)?;
     warn_declared(warnings, unit, &uses)
 }
@@ -35,7 +35,7 @@ fn warn_unit<'a>(
     unit: &Unit<'a>,
 ) -> Result<(), AllocError>
     ensures added { OnOk result
-        (Warns warnings.old.items warnings.new.items (unit_cautions (unit_view unit.now))) }
+        (Warns warnings.old.items warnings.new.items (unit_warnings (unit_view unit.now))) }
 {
     let events = events_of(alloc, &unit.body)?;
     warn_names(alloc, warnings, unit, &events)?;

@@ -2,12 +2,12 @@ ghost use Rattle.std.specs.Prelude.{◌≡◌, ◌<◌, ◌&&◌, ◌||◌, fals
 ghost use Rattle.wc_model.specs.Definitions.{same_name, name_of};
 ghost use Rattle.wc_names.specs.Keys.{name_of_key};
 ghost use Rattle.wc_names.specs.declared.key.Key.{Key as Keyed};
-ghost use Rattle.wc_diag_warnings.specs.Paths.{doing_leaves, Source, Store, AreFrom, IsFollowed, is_from, is_store, leads, marks};
-ghost use Rattle.wc_diag_warnings.specs.Events.{Happening};
+ghost use Rattle.wc_diag_warnings.specs.Paths.{action_leaves, Source, Store, AreFrom, IsFollowed, is_from, is_store, leads, marks};
+ghost use Rattle.wc_diag_warnings.specs.Events.{BodyEvent};
 ghost use Rattle.wc_diag_warnings.specs.Seen.{event_view};
 
-use crate::addresses::stored;
-use crate::events::{Deed, Event};
+use crate::addresses::stored_variable;
+use crate::events::{Action, Event};
 use indexmap::IndexMap;
 use std::alloc::{AllocError, Global};
 use wc_model::Condition;
@@ -86,10 +86,11 @@ pub(crate) fn at_start<'a>(alloc: Global) -> Ahead<'a>
 
 /// Whether no run goes on from the event to the next.
 fn leaves(event: &Event<'_>) -> bool
-    ensures { result ≡ doing_leaves (event_view event.now).doing }
+    ensures { result ≡ action_leaves (event_view event.now).action }
 {
-    match event.deed {
-        Deed::Jump { condition, .. } | Deed::Return(condition) => condition == Condition::Always,
+    match event.action {
+        Action::Jump { condition, .. } | Action::Return(condition) => condition
+            == Condition::Always,
         _ => false,
     }
 }
@@ -97,13 +98,13 @@ fn leaves(event: &Event<'_>) -> bool
 /// The paths to the event that go on to the next, and one that begins with the event if it stores an output.
 fn onward(event: &Event<'_>, paths: Paths) -> Paths
     ensures { (source : Source) → is_from result source
-        ≡ (not (doing_leaves (event_view event.now).doing)
+        ≡ (not (action_leaves (event_view event.now).action)
         && (is_from paths source || marks source (event_view event.now))) }
 {
     if leaves(event) {
         return no_paths();
     }
-    match stored(event) {
+    match stored_variable(event) {
         Some(output) => from_store(paths, output),
         None => paths,
     }
@@ -121,11 +122,11 @@ fn to_label(labels: &IndexMap<Key<'_>, Paths>, label: &[u8]) -> Paths
 
 /// The paths to the event after those before.
 pub(crate) fn paths_to(ahead: &Ahead<'_>, event: &Event<'_>) -> Paths
-    ensures { (before : List Happening) → IsFollowed before ahead.now
+    ensures { (before : List BodyEvent) → IsFollowed before ahead.now
         → AreFrom result before (event_view event.now) }
 {
-    match event.deed {
-        Deed::Label(label) => both(ahead.next, to_label(&ahead.labels, label)),
+    match event.action {
+        Action::Label(label) => both(ahead.next, to_label(&ahead.labels, label)),
         _ => ahead.next,
     }
 }
@@ -153,13 +154,13 @@ pub(crate) fn follow<'a>(
     event: &Event<'a>,
     paths: Paths,
 ) -> Result<(), AllocError>
-    ensures followed { OnOk result ((before : List Happening) → IsFollowed before ahead.old
+    ensures followed { OnOk result ((before : List BodyEvent) → IsFollowed before ahead.old
         → AreFrom paths before (event_view event.now)
         → IsFollowed (event_view event.now ∷ before) ahead.new) }
 {
     ahead.next = onward(event, paths);
-    match event.deed {
-        Deed::Jump { label, .. } => lead(&mut ahead.labels, label, paths),
+    match event.action {
+        Action::Jump { label, .. } => lead(&mut ahead.labels, label, paths),
         _ => Ok(()),
     }
 }

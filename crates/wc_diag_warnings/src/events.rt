@@ -1,14 +1,14 @@
 ghost use Rattle.std.specs.Prelude.{◌≡◌, ℕ, [], ◌∷◌, ◌++◌, IfOk, OnOk, map, option_map};
 ghost use Rattle.wc_model.specs.Definitions.{name_of, Lines, assignment_view, line_view, lines_view, term_view, word_view};
-ghost use Rattle.wc_diag_warnings.specs.Events.{Begins, argument_events, at, call_events, events_of, label_events, line_events, opening_events, storing_event};
-ghost use Rattle.wc_diag_warnings.specs.Seen.{deed_events, deed_view, events_view, instr_view, Adds};
+ghost use Rattle.wc_diag_warnings.specs.Events.{Begins, argument_events, at, call_events, events_of, label_events, line_events, opening_events, action_of_store};
+ghost use Rattle.wc_diag_warnings.specs.Seen.{action_events, action_view, events_view, instr_view, Adds};
 
 use std::alloc::{AllocError, Global};
-use wc_model::{Argument, Condition, Direction, Instr, Line, Operand, Storing, Word};
+use wc_model::{Argument, Condition, Direction, Instr, Line, Operand, StoreKind, Word};
 
 /// What an instruction does: with what it names, or with the way on.
 #[derive(Clone, Copy)]
-pub(crate) enum Deed<'a> {
+pub(crate) enum Action<'a> {
     /// An instruction begins.
     Begin,
     Label(&'a [u8]),
@@ -33,29 +33,29 @@ pub(crate) enum Deed<'a> {
     Return(Condition),
 }
 
-/// A deed and its line of the text.
+/// A action and its line of the text.
 #[derive(Clone, Copy)]
 pub(crate) struct Event<'a> {
     /// Counted from 1.
     pub(crate) line: u32,
-    pub(crate) deed: Deed<'a>,
+    pub(crate) action: Action<'a>,
 }
 
 /// Adds an event.
-fn put<'a>(events: &mut Vec<Event<'a>>, line: u32, deed: Deed<'a>) -> Result<(), AllocError>
+fn put<'a>(events: &mut Vec<Event<'a>>, line: u32, action: Action<'a>) -> Result<(), AllocError>
     ensures added { OnOk result
-        (Adds events.old.items events.new.items (at line (deed_view deed.entry) ∷ [])) }
+        (Adds events.old.items events.new.items (at line (action_view action.entry) ∷ [])) }
 {
-    Ok(events.push(Event { line, deed })?)
+    Ok(events.push(Event { line, action })?)
 }
 
 /// What a store does.
-fn stored<'a>(storing: Storing, target: Operand<'a>) -> Deed<'a>
-    ensures { deed_view result ≡ storing_event storing (term_view target.entry) }
+fn action_of_store<'a>(storing: StoreKind, target: Operand<'a>) -> Action<'a>
+    ensures { action_view result ≡ action_of_store storing (term_view target.entry) }
 {
     match storing {
-        Storing::Result | Storing::Negation => Deed::Store(target),
-        Storing::Set | Storing::Reset => Deed::Set(target),
+        StoreKind::Result | StoreKind::Negation => Action::Store(target),
+        StoreKind::Set | StoreKind::Reset => Action::Set(target),
     }
 }
 
@@ -71,26 +71,26 @@ fn put_argument<'a>(
 {
     match argument.direction {
         Direction::Into => {
-            put(events, line, Deed::Read(argument.value))?;
+            put(events, line, Action::Read(argument.value))?;
             let input = argument.name;
-            put(events, line, Deed::Give { instance, input })
+            put(events, line, Action::Give { instance, input })
         }
-        Direction::OutOf => put(events, line, Deed::Store(argument.value)),
+        Direction::OutOf => put(events, line, Action::Store(argument.value)),
     }
 }
 
-/// Adds the beginning of an instruction, and its one deed if it has one.
+/// Adds the beginning of an instruction, and its one action if it has one.
 fn put_step<'a>(
     events: &mut Vec<Event<'a>>,
     line: u32,
-    deed: Option<Deed<'a>>,
+    action: Option<Action<'a>>,
 ) -> Result<(), AllocError>
     ensures added { OnOk result
-        (Adds events.old.items events.new.items (at line Begins ∷ deed_events line deed.entry)) }
+        (Adds events.old.items events.new.items (at line Begins ∷ action_events line action.entry)) }
 {
-    put(events, line, Deed::Begin)?;
-    match deed {
-        Some(deed) => put(events, line, deed),
+    put(events, line, Action::Begin)?;
+    match action {
+        Some(action) => put(events, line, action),
         None => Ok(()),
     }
 }
@@ -101,7 +101,7 @@ fn put_label<'a>(events: &mut Vec<Event<'a>>, label: Option<Word<'a>>) -> Result
         (Adds events.old.items events.new.items (label_events (option_map word_view label.entry))) }
 {
     match label {
-        Some(word) => put(events, word.line, Deed::Label(word.text)),
+        Some(word) => put(events, word.line, Action::Label(word.text)),
         None => Ok(()),
     }
 }
@@ -117,7 +117,7 @@ fn put_call<'a>(
         (at line Begins ∷ call_events line (name_of instance.now)
         (map assignment_view arguments.now))) }
 {
-    put_step(events, line, Some(Deed::Call(instance)))?;
+    put_step(events, line, Some(Action::Call(instance)))?;
     for argument in arguments {
         put_argument(events, line, instance, argument)?;
     }
@@ -125,12 +125,12 @@ fn put_call<'a>(
 }
 
 /// What the operand of an opening line is: read.
-fn first_read<'a>(operand: &Option<Operand<'a>>) -> Option<Deed<'a>>
-    ensures { (line : ℕ) → deed_events line result
+fn first_read<'a>(operand: &Option<Operand<'a>>) -> Option<Action<'a>>
+    ensures { (line : ℕ) → action_events line result
         ≡ opening_events line (option_map term_view operand.now) }
 {
     match operand {
-        Some(operand) => Some(Deed::Read(*operand)),
+        Some(operand) => Some(Action::Read(*operand)),
         None => None,
     }
 }
@@ -160,9 +160,9 @@ fn put_instr<'a>(events: &mut Vec<Event<'a>>, instr: &Instr<'a>) -> Result<(), A
             storing,
             target,
             line,
-        } => put_step(events, *line, Some(stored(*storing, *target))),
+        } => put_step(events, *line, Some(action_of_store(*storing, *target))),
         Instr::Load { operand, line, .. } | Instr::Apply { operand, line, .. } => {
-            put_step(events, *line, Some(Deed::Read(*operand)))
+            put_step(events, *line, Some(Action::Read(*operand)))
         }
         Instr::Defer {
             operand,
@@ -180,7 +180,7 @@ fn put_instr<'a>(events: &mut Vec<Event<'a>>, instr: &Instr<'a>) -> Result<(), A
             line,
         } => {
             let condition = *condition;
-            put_step(events, *line, Some(Deed::Jump { condition, label }))
+            put_step(events, *line, Some(Action::Jump { condition, label }))
         }
         Instr::Call {
             instance,
@@ -189,7 +189,7 @@ fn put_instr<'a>(events: &mut Vec<Event<'a>>, instr: &Instr<'a>) -> Result<(), A
             ..
         } => put_call(events, *line, instance, arguments),
         Instr::Return { condition, line } => {
-            put_step(events, *line, Some(Deed::Return(*condition)))
+            put_step(events, *line, Some(Action::Return(*condition)))
         }
     }
 }

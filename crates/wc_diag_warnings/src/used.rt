@@ -4,7 +4,7 @@ ghost use Rattle.wc_model.specs.Definitions.{is_among, same_name, Name, name_of,
 ghost use Rattle.wc_diag_warnings.specs.Seen.{does, event_view, events_view, uses_view};
 ghost use Rattle.wc_diag_warnings.specs.Uses.{is_this, is_variable, used_in};
 
-use crate::events::{Deed, Event};
+use crate::events::{Action, Event};
 use std::alloc::{AllocError, Global};
 use wc_model::{Operand, is_word};
 use wc_names::Names;
@@ -40,15 +40,15 @@ fn given_time<'a>(instance: &'a [u8], input: &[u8]) -> Option<&'a [u8]>
 
 /// The name that the event uses so.
 fn name_used<'a>(wanted: Use, event: &Event<'a>) -> Option<&'a [u8]>
-    ensures { (name : Name) → does wanted (event_view event.now).doing name
+    ensures { (name : Name) → does wanted (event_view event.now).action name
         ≡ is_this (option_map (λ text. name_of text.now) result) name }
 {
-    match (wanted, event.deed) {
-        (Use::Read, Deed::Read(operand)) => variable_of(operand),
-        (Use::Written, Deed::Store(target) | Deed::Set(target)) => variable_of(target),
-        (Use::Called, Deed::Call(instance)) => Some(instance),
-        (Use::Given, Deed::Give { instance, input }) => given_time(instance, input),
-        (Use::Given, Deed::Store(Operand::Field { instance, field })) => given_time(
+    match (wanted, event.action) {
+        (Use::Read, Action::Read(operand)) => variable_of(operand),
+        (Use::Written, Action::Store(target) | Action::Set(target)) => variable_of(target),
+        (Use::Called, Action::Call(instance)) => Some(instance),
+        (Use::Given, Action::Give { instance, input }) => given_time(instance, input),
+        (Use::Given, Action::Store(Operand::Field { instance, field })) => given_time(
             instance, field,
         ),
         _ => None,
@@ -74,7 +74,7 @@ fn add<'a>(names: &mut Names<'a>, name: Option<&'a [u8]>) -> Result<(), AllocErr
 fn add_used<'a>(names: &mut Names<'a>, wanted: Use, events: &[Event<'a>]) -> Result<(), AllocError>
     ensures added { OnOk result ((name : Name) → is_among names.new name
         ≡ (is_among names.old name
-        || list_any (λ e. does wanted e.doing name) (events_view events.now))) }
+        || list_any (λ e. does wanted e.action name) (events_view events.now))) }
 {
     for event in events {
         add(names, name_used(wanted, event))?;
@@ -92,7 +92,7 @@ pub(crate) struct Uses<'a> {
 }
 
 /// No names.
-pub(crate) fn unused<'a>(alloc: Global) -> Uses<'a>
+pub(crate) fn no_uses<'a>(alloc: Global) -> Uses<'a>
     ensures { (name : Name) → uses_view result name ≡ used_in [] name }
 {
     Uses {

@@ -53,7 +53,7 @@ pub fn rounded_apart()
 {}
 
 /// A clear ends the tare, and the net weight is gross again.
-pub fn cleared()
+pub fn clear()
     ensures { replies plate_of_15_kg
         (four_rows (pos 210000) ++ asks (codes "T") ∷ asks (codes "C") ∷ [])
         ≡ framed (codes " 1N       0.000kg ") ++ framed (codes " 1G       5.000kg ") }

@@ -6,7 +6,7 @@ use Rattle.wc_model.specs.declared.operator.Operator.TheVariants.{And, Or, Add, 
 use Rattle.wc_model.specs.declared.source.Section.TheVariants.{Own}
 use Rattle.wc_model.specs.declared.value.Value.TheVariants.{Time}
 use Rattle.wc_model.specs.declared.operator.Condition.TheVariants.{Always, IfTrue}
-use Rattle.wc_model.specs.declared.operator.Storing.TheVariants.{Result}
+use Rattle.wc_model.specs.declared.operator.StoreKind.TheVariants.{Result}
 use Rattle.wc_model.specs.Definitions.{RsFields, RsCall}
 use Rattle.wc_model.specs.declared.block.StandardBlock.{StandardBlock}
 use Rattle.wc_model.specs.declared.block.StandardBlock.TheVariants.{RTrig, Sr, Rs, Ctu, Ton, Tof, Tp}

@@ -7,7 +7,7 @@ use Rattle.wc_model.specs.declared.operator.Operator.TheVariants.{Add}
 use Rattle.wc_model.specs.declared.source.Section.TheVariants.{Input, Output, Own}
 use Rattle.wc_model.specs.declared.source.UnitKind.TheVariants.{FunctionBlock, Program}
 use Rattle.wc_model.specs.Language.Checks.{Refusal}
-use Rattle.wc_model.specs.declared.operator.Storing.TheVariants.{Result}
+use Rattle.wc_model.specs.declared.operator.StoreKind.TheVariants.{Result}
 use Rattle.wc_model.specs.declared.value.Value.TheVariants.{Dint}
 use Rattle.wc_examples_language.specs.Writing.{word, at, var, dot, ld, st, op, call, arg, declares, num, jump, labelled, program}
 

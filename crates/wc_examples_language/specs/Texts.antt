@@ -6,7 +6,7 @@ use Rattle.wc_model.specs.Definitions.{Language, ◌then◌, empty, end_word, Gr
 use Rattle.wc_model.specs.declared.operator.Condition.TheVariants.{Always, IfTrue}
 use Rattle.wc_model.specs.declared.operator.Direction.TheVariants.{Into, OutOf}
 use Rattle.wc_model.specs.declared.operator.Operator.TheVariants.{And, Andn, Or}
-use Rattle.wc_model.specs.declared.operator.Storing.TheVariants.{Result}
+use Rattle.wc_model.specs.declared.operator.StoreKind.TheVariants.{Result}
 use Rattle.wc_model.specs.declared.source.Section.TheVariants.{Own}
 use Rattle.wc_model.specs.declared.source.UnitKind.TheVariants.{FunctionBlock, Program}
 use Rattle.wc_model.specs.declared.value.Value.TheVariants.{Bool as BoolValue, Dint, Time}

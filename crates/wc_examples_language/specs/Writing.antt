@@ -6,7 +6,7 @@ use Rattle.wc_model.specs.declared.operator.Condition.{Condition}
 use Rattle.wc_model.specs.declared.operator.Condition.TheVariants.{Always}
 use Rattle.wc_model.specs.declared.operator.Direction.TheVariants.{Into, OutOf}
 use Rattle.wc_model.specs.declared.operator.Operator.{Operator}
-use Rattle.wc_model.specs.declared.operator.Storing.TheVariants.{Result, Negation}
+use Rattle.wc_model.specs.declared.operator.StoreKind.TheVariants.{Result, Negation}
 use Rattle.wc_model.specs.declared.source.Section.{Section}
 use Rattle.wc_model.specs.declared.source.UnitKind.TheVariants.{Program}
 use Rattle.wc_model.specs.declared.value.Value.TheVariants.{Bool as Truth, Dint, Time}

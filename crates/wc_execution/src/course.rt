@@ -15,7 +15,7 @@ pub enum Flow {
 
 /// What a line leaves.
 #[derive(Clone, Copy)]
-pub struct Moved {
+pub struct LineResult {
     /// The result, whatever it was if there is none.
     pub current: i32,
     /// Where the body goes on.
@@ -24,11 +24,11 @@ pub struct Moved {
 
 /// On to the next line, with this result.
 #[inline(always)]
-pub(crate) fn on(current: i32) -> Moved
+pub(crate) fn on(current: i32) -> LineResult
     ensures current { result.current ≡ current }
     ensures course { course_view result.course ≡ skips 0 }
 {
-    Moved {
+    LineResult {
         current,
         course: Flow::On,
     }
@@ -36,12 +36,12 @@ pub(crate) fn on(current: i32) -> Moved
 
 /// On, if some lines are passed over or none.
 #[inline(always)]
-pub(crate) fn over(current: i32, passes: bool, skip: u32) -> Moved
+pub(crate) fn over(current: i32, passes: bool, skip: u32) -> LineResult
     ensures current { result.current ≡ current }
     ensures course { course_view result.course
         ≡ elim passes [ true ↦ skips skip | false ↦ skips 0 ] }
 {
-    Moved {
+    LineResult {
         current,
         course: if passes { Flow::Skips(skip) } else { Flow::On },
     }
@@ -49,11 +49,11 @@ pub(crate) fn over(current: i32, passes: bool, skip: u32) -> Moved
 
 /// Out of the body, or on to the next line.
 #[inline(always)]
-pub(crate) fn out(current: i32, leaves: bool) -> Moved
+pub(crate) fn out(current: i32, leaves: bool) -> LineResult
     ensures current { result.current ≡ current }
     ensures course { course_view result.course ≡ elim leaves [ true ↦ ended | false ↦ skips 0 ] }
 {
-    Moved {
+    LineResult {
         current,
         course: if leaves { Flow::Ended } else { Flow::On },
     }

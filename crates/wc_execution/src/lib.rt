@@ -15,7 +15,7 @@ mod tof;
 mod ton;
 mod tp;
 
-pub use course::{Count, Flow, Moved, count_on, next_line, with_lines};
+pub use course::{Count, Flow, LineResult, count_on, next_line, with_lines};
 pub use image::copy_image;
 pub use outputs::{number_at, read_outputs};
 pub use own_lines::{go_on, step};

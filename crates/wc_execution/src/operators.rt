@@ -1,5 +1,5 @@
 ghost use Rattle.std.specs.Prelude.{◌≡◌, ◌≤◌, Some, IsSome, pos, true, false, reverse};
-ghost use Rattle.wc_text_flat.specs.NumberOperators.{bit_of, combined, acts};
+ghost use Rattle.wc_text_flat.specs.NumberOperators.{bit_of, apply_number, acts};
 ghost use Rattle.wc_execution.specs.Logic.{is_logic, row_of};
 ghost use Rattle.wc_execution.specs.Lines.{IsClosable, IsClosed};
 
@@ -53,8 +53,8 @@ fn unsigned_bit(number: i32) -> u32
 #[inline(always)]
 pub(crate) fn logic(operator: Operator, a: i32, b: i32) -> i32
     requires kind { is_logic operator ≡ true }
-    requires there { IsSome (combined operator a b) }
-    ensures { combined operator a b ≡ Some result }
+    requires there { IsSome (apply_number operator a b) }
+    ensures { apply_number operator a b ≡ Some result }
 {
     let rows: u32 = 0b1001_0110_1101_1110_0100_1000;
     let place = row(operator) + 2 * unsigned_bit(a) + unsigned_bit(b);
@@ -72,10 +72,10 @@ pub(crate) fn truth(number: i32) -> bool
 
 /// `a operator b` on numbers.
 #[inline(always)]
-fn counted(operator: Operator, a: i32, b: i32) -> i32
+fn arithmetic(operator: Operator, a: i32, b: i32) -> i32
     requires kind { is_logic operator ≡ false }
-    requires there { IsSome (combined operator a b) }
-    ensures { combined operator a b ≡ Some result }
+    requires there { IsSome (apply_number operator a b) }
+    ensures { apply_number operator a b ≡ Some result }
 {
     match operator {
         Operator::Add => a.wrapping_add(b),
@@ -96,14 +96,14 @@ fn counted(operator: Operator, a: i32, b: i32) -> i32
 
 /// `a operator b`.
 #[inline(always)]
-pub(crate) fn combined(operator: Operator, a: i32, b: i32) -> i32
-    requires { IsSome (combined operator a b) }
-    ensures { combined operator a b ≡ Some result }
+pub(crate) fn apply_number(operator: Operator, a: i32, b: i32) -> i32
+    requires { IsSome (apply_number operator a b) }
+    ensures { apply_number operator a b ≡ Some result }
 {
     if is_logic(operator) {
         logic(operator, a, b)
     } else {
-        counted(operator, a, b)
+        arithmetic(operator, a, b)
     }
 }
 
@@ -128,7 +128,7 @@ pub(crate) fn close(deferred: &mut ArrayVec<i32, 8>, operator: Operator, inner: 
         (reverse deferred.new.items) }
 {
     match deferred.pop() {
-        Some(outer) => combined(operator, outer, inner),
+        Some(outer) => apply_number(operator, outer, inner),
         // Something is put by, so this is not reached.
         None => inner,
     }

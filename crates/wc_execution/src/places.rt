@@ -1,17 +1,17 @@
 ghost use Rattle.std.specs.Prelude.{◌≡◌, ◌≤◌, ℕ, Some, IsSome, false, length, true, []};
-ghost use Rattle.wc_text_flat.specs.{flipped, number_stored, number_written};
+ghost use Rattle.wc_text_flat.specs.{negated_number, number_stored, number_written};
 ghost use Rattle.wc_execution.specs.Lines.{held, loaded, negated_if, passed, stored, written, AreBefore, here_at, no_calls, state_of, IsStorable, IsWritable};
-ghost use Rattle.wc_model.specs.declared.operator.Storing.TheVariants as stores;
+ghost use Rattle.wc_model.specs.declared.operator.StoreKind.TheVariants as stores;
 
 use crate::operators::truth;
-use wc_model::{Code, Place, Storing};
+use wc_model::{Code, Place, StoreKind};
 use wc_store::Store;
 
 /// The negation of a number that is 0 or 1.
 #[inline(always)]
-pub(crate) fn flipped(number: i32) -> i32
-    requires { IsSome (flipped number) }
-    ensures { flipped number ≡ Some result }
+pub(crate) fn negated_number(number: i32) -> i32
+    requires { IsSome (negated_number number) }
+    ensures { negated_number number ≡ Some result }
 {
     i32::from(!truth(number))
 }
@@ -64,12 +64,12 @@ pub(crate) fn load<S: Store>(store: &S, base: usize, negated: bool, place: Place
 
 /// Whether it is the negation that is stored.
 #[inline(always)]
-fn negates(storing: Storing) -> bool
+fn negates(storing: StoreKind) -> bool
     ensures plain { storing ≡ stores.Result → result ≡ false }
     ensures negated { storing ≡ stores.Negation → result ≡ true }
 {
     match storing {
-        Storing::Negation => true,
+        StoreKind::Negation => true,
         _ => false,
     }
 }
@@ -79,7 +79,7 @@ fn negates(storing: Storing) -> bool
 pub(crate) fn put<S: Store>(
     store: &mut S,
     base: usize,
-    storing: Storing,
+    storing: StoreKind,
     place: Place,
     current: i32,
 )
@@ -93,15 +93,15 @@ pub(crate) fn put<S: Store>(
         → AreBefore now (S.slot_kinds store.new) (S.numbers store.new) }
 {
     match storing {
-        Storing::Result | Storing::Negation => {
+        StoreKind::Result | StoreKind::Negation => {
             write(store, base, place, negated_where(negates(storing), current));
         }
-        Storing::Set => {
+        StoreKind::Set => {
             if truth(current) {
                 write(store, base, place, 1);
             }
         }
-        Storing::Reset => {
+        StoreKind::Reset => {
             if truth(current) {
                 write(store, base, place, 0);
             }
@@ -126,15 +126,15 @@ pub(crate) fn pass<S: Store>(store: &mut S, base: usize, place: Place, target: P
 }
 
 /// What ST, STN, S and R write of a result: S and R nothing if it is FALSE.
-fn number_stored(storing: Storing, current: i32) -> Option<i32>
+fn number_stored(storing: StoreKind, current: i32) -> Option<i32>
     requires { IsStorable storing current }
     ensures { result ≡ number_stored storing current }
 {
     match storing {
-        Storing::Result => Some(current),
-        Storing::Negation => Some(flipped(current)),
-        Storing::Set => { if truth(current) { Some(1) } else { None } }
-        Storing::Reset => { if truth(current) { Some(0) } else { None } }
+        StoreKind::Result => Some(current),
+        StoreKind::Negation => Some(negated_number(current)),
+        StoreKind::Set => { if truth(current) { Some(1) } else { None } }
+        StoreKind::Reset => { if truth(current) { Some(0) } else { None } }
     }
 }
 

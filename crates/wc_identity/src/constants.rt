@@ -6,8 +6,8 @@ macro_rules! with_constants {
         $macro!(
             "0.1.0",
             "rattle-kit-13 logic dac8208d650f15bf",
-            "62ad75432a1843da2bbbb7f6d24648d07cc10c2a02f8b6cdd062a8a830ebb066",
-            "c50528ef5a7de53d996a25e66cff5d5fdec35a8be7d843e7375aea10433c67d4"
+            "78dadf184ff25c88e3fdf333e5a8b7116918528ce6b27960d8f3f36f6be54337",
+            "4d9b1cb3c36696a36928e1b04161c7007e4c3b33d931a6917d4bd7440d87e4b2"
         )
     };
 }

@@ -18,7 +18,7 @@ pub struct Identity {
 }
 
 /// A text, and one zero or more after it.
-fn padded<const N: usize>(text: &str) -> [u8; N]
+fn with_zeros<const N: usize>(text: &str) -> [u8; N]
     requires { length text.now < N }
     ensures { IsText text.now N result }
 {
@@ -32,9 +32,9 @@ pub fn identify() -> Identity
     ensures { IsThisVersion result }
 {
     Identity {
-        version: padded(VERSION),
-        toolchain: padded(TOOLCHAIN),
-        legal_part: padded(LEGAL_PART),
-        data_path: padded(DATA_PATH),
+        version: with_zeros(VERSION),
+        toolchain: with_zeros(TOOLCHAIN),
+        legal_part: with_zeros(LEGAL_PART),
+        data_path: with_zeros(DATA_PATH),
     }
 }

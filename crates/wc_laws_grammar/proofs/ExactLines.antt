@@ -1,6 +1,6 @@
 -- The walk on a line keeps what precedes and follows its operator.
 use Rattle.std.proofs.Common.{◌≡◌, ℕ, Bool, true, false, List, [], ◌∷◌, ◌++◌, Option, Some, None, refl, ap, append_assoc, append-nil, subst, if◌then◌else◌, ◌∙◌, sym}
-use Rattle.wc_laws_grammar.specs.{StartedLine, Listed, OperandOf, OfStep, OfOpening, OfArgument, InList, AtFirst, AtNext, AtAssign, AtValue, AtEnd, LineState, Start, Worded, Labelled, Operated, Jumped, Called, Instanced, Listing, Bracketed, Named, Pointed, Stepped, BracketedWith, Ended, at_bracketed, at_field, at_labelled, at_list, at_operand, at_operated, at_operator, at_start, at_start_in, after_name, after_operand, after_operator, line_move, name_or_literal, operator_or_label, simple_operator, Operating, Applies, Operation, Operates, Negates, found, is_transfer, operation_of, operations, truths}
+use Rattle.wc_laws_grammar.specs.{StartedLine, OpenCall, OperandOf, OfStep, OfOpening, OfArgument, InList, AtFirst, AtNext, AtAssign, AtValue, AtEnd, LineState, Start, Worded, Labelled, Operated, Jumped, Called, Instanced, Listing, Bracketed, Named, Pointed, Stepped, BracketedWith, Ended, at_bracketed, at_field, at_labelled, at_list, at_operand, at_operated, at_operator, at_start, at_start_in, after_name, after_operand, after_operator, line_move, name_or_literal, operator_or_label, simple_operator, OperandOperator, Applies, Operation, Operates, Negates, found, is_transfer, operation_of, operations, truths}
 use Rattle.wc_laws_grammar.proofs.Appending.{append_last}
 use Rattle.wc_laws_grammar.proofs.LineSound.{AllowsFrom, mark_on}
 use Rattle.wc_laws_grammar.proofs.Reported.{Exact, PartOpened}
@@ -107,7 +107,7 @@ exact_bracket setting started operator line tokens h = record {
   goes = λ line_shape more r. (r.0, r.2);
 }
 
-exact_operated : (setting : Setting) (started : StartedLine) (operating : Operating) (symbol : Symbol) (line : ℕ) (tokens : List Mark) → Exact setting (Operated started operating) tokens
+exact_operated : (setting : Setting) (started : StartedLine) (operating : OperandOperator) (symbol : Symbol) (line : ℕ) (tokens : List Mark) → Exact setting (Operated started operating) tokens
     → ExactNext setting (tokens ++ mark_on symbol line ∷ []) (at_operated started operating symbol line)
 exact_operated setting started (Applies operator) OpeningBracket line tokens h = exact_bracket setting started operator line tokens h
 exact_operated setting started operating symbol line tokens h = exact_at_operand setting started (OfStep operating) symbol line (tokens ++ mark_on symbol line ∷ []) tt
@@ -166,7 +166,7 @@ opened_with : (started : StartedLine) (operator : Operator) (x : Term) (symbol :
 opened_with started operator x LineEnd line setting colon = tt
 opened_with started operator x _ line setting colon = tt
 
-exact_list : (setting : Setting) (started : StartedLine) (call : Listed) (item : InList) (symbol : Symbol) (line : ℕ) (tokens : List Mark) → ExactNext setting tokens (at_list started call item symbol line)
+exact_list : (setting : Setting) (started : StartedLine) (call : OpenCall) (item : InList) (symbol : Symbol) (line : ℕ) (tokens : List Mark) → ExactNext setting tokens (at_list started call item symbol line)
 exact_list setting started call item LineEnd line tokens = tt
 exact_list setting started call AtFirst (Identifier bytes) line tokens = tt
 exact_list setting started call AtFirst ClosingBracket line tokens = tt

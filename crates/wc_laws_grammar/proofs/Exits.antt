@@ -2,7 +2,7 @@
 use Rattle.std.proofs.Common.{◌≡◌, ◌≢◌, ℕ, Bool, true, false, List, [], ◌∷◌, ◌++◌, Option, Some, None, refl, ap, subst, if◌then◌else◌, ◌∙◌, inl, inr}
 use Rattle.std.specs.List.{AllByRecursion}
 use Rattle.std.specs.Prelude.{◌⊎◌}
-use Rattle.wc_laws_grammar.specs.{with_actual, LineShape, LabelAlone, Instructs, Opens, StartedLine, Listed, OfStep, OfOpening, OfArgument, InList, AtFirst, AtNext, AtAssign, AtValue, AtEnd, LineState, Start, Worded, Labelled, Operated, Jumped, Called, Instanced, Listing, Bracketed, Named, Pointed, Stepped, BracketedWith, Ended, InDeclaration, Undeclared, AfterNames, AfterComma, AfterColon, AfterType, AfterAssign, AfterValue, State, Outside, Unnamed, Declaring, AtLine, OnLine, Closed, after_closing, after_line, after_unit, body_start, colon_next, is_colon, has_content, lines_and, move, named_unit, start_move, on_line, open_in, open_on, unit_with, walk, section_or_line, section_of_word, with_declaration, step_of}
+use Rattle.wc_laws_grammar.specs.{with_actual, LineShape, LabelAlone, Instructs, Opens, StartedLine, OpenCall, OfStep, OfOpening, OfArgument, InList, AtFirst, AtNext, AtAssign, AtValue, AtEnd, LineState, Start, Worded, Labelled, Operated, Jumped, Called, Instanced, Listing, Bracketed, Named, Pointed, Stepped, BracketedWith, Ended, InDeclaration, Undeclared, AfterNames, AfterComma, AfterColon, AfterType, AfterAssign, AfterValue, State, Outside, Unnamed, Declaring, AtLine, OnLine, Closed, after_closing, after_line, after_unit, body_start, colon_next, is_colon, has_content, lines_and, move, named_unit, start_move, on_line, open_in, open_on, unit_with, walk, section_or_line, section_of_word, with_declaration, step_of}
 use Rattle.wc_laws_grammar.proofs.LineRests.{rest_of}
 use Rattle.wc_laws_grammar.proofs.LineSound.{mark_on}
 use Rattle.wc_laws_grammar.proofs.WalkedLines.{on_line_walked, walk_on, walk_then}
@@ -44,7 +44,7 @@ pub record Completed (state : LineState) : Type 0 where
   pub sort : IsOpening state ⊎ (NoOpens line_shape × ((p : Position) → open_on p state ≡ open_in p.unit p.openings))
 
 -- a name, and what completes a call's list after it
-list_completed : (started : StartedLine) (call : Listed) (item : InList) → Completed (Listing started call item)
+list_completed : (started : StartedLine) (call : OpenCall) (item : InList) → Completed (Listing started call item)
 list_completed started call AtFirst = record { sort = inr (tt, λ p. refl); line_shape = Instructs started.label started.line (Call call.condition call.instance (call.arguments ++ [])); more = sign ClosingBracket ∷ sign LineEnd ∷ []; rest = ([], refl, record { prefix = []; rest = sign ClosingBracket ∷ sign LineEnd ∷ []; whole = refl; begins = refl; goes_on = next refl refl }) }
 list_completed started call AtNext =
     let a : Assignment = record { direction = Into; formal = 97 ∷ []; actual = truth } in

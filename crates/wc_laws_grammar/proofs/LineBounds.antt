@@ -2,7 +2,7 @@
 use Rattle.std.proofs.Common.{◌≡◌, ◌≢◌, ℕ, Bool, true, false, List, Option, Some, None, refl, ap, subst, if◌then◌else◌, sym, inl, inr, arith, ◌⊎◌}
 use Rattle.std.specs.Prelude.{is_some}
 use Rattle.wc_laws_grammar.proofs.Bounds.{Within, PositionWithin, counted, ended_was_within, ended_within, opened}
-use Rattle.wc_laws_grammar.specs.{StartedLine, Listed, InList, AtFirst, AtNext, AtAssign, AtValue, AtEnd, OperandOf, OfStep, OfOpening, OfArgument, LineState, Start, Worded, Labelled, Operated, Jumped, Called, Instanced, Listing, Bracketed, Named, Pointed, Stepped, BracketedWith, Ended, at_bracketed, at_field, at_labelled, at_list, at_operand, at_operated, at_operator, at_start, after_name, after_operand, after_operator, line_move, name_or_literal, operator_or_label, simple_operator, State, started_line, Operating, Loads, Stores, Applies, Operation, Operates, found, is_transfer, operation_of, operations, truths}
+use Rattle.wc_laws_grammar.specs.{StartedLine, OpenCall, InList, AtFirst, AtNext, AtAssign, AtValue, AtEnd, OperandOf, OfStep, OfOpening, OfArgument, LineState, Start, Worded, Labelled, Operated, Jumped, Called, Instanced, Listing, Bracketed, Named, Pointed, Stepped, BracketedWith, Ended, at_bracketed, at_field, at_labelled, at_list, at_operand, at_operated, at_operator, at_start, after_name, after_operand, after_operator, line_move, name_or_literal, operator_or_label, simple_operator, State, started_line, OperandOperator, Loads, Stores, Applies, Operation, Operates, found, is_transfer, operation_of, operations, truths}
 use Rattle.wc_model.specs.Definitions.{Setting, Name, name_of, Position, Term, Word}
 use Rattle.wc_model.specs.Text.Marks.{Symbol, Identifier, Whole, Duration, Truth, Direct, OpeningBracket, ClosingBracket, Comma, Colon, Point, Assign, Arrow, LineEnd}
 use Rattle.wc_model.specs.declared.operator.Operator.{Operator}
@@ -39,7 +39,7 @@ count_at_operand started place (Duration number) line = count_operand started pl
 count_at_operand started place (Truth value) line = count_operand started place _
 count_at_operand started place _ line = tt
 
-count_list : (started : StartedLine) (call : Listed) (item : InList) (symbol : Symbol) (line : ℕ) → Counts 1 0 (at_list started call item symbol line)
+count_list : (started : StartedLine) (call : OpenCall) (item : InList) (symbol : Symbol) (line : ℕ) → Counts 1 0 (at_list started call item symbol line)
 count_list started call item LineEnd line = (refl, refl)
 count_list started call AtFirst (Identifier bytes) line = (refl, refl)
 count_list started call AtFirst ClosingBracket line = (refl, refl)
@@ -177,7 +177,7 @@ simple_once symbol line (Some operation) e = by_transfer (is_transfer operation)
     by_transfer false = let c = count_operator None line operation in (c.1, inr (c.0, ap is_some e))
 
 -- after an operator with an operand a bracket opens, and nothing else
-pub operated_counts : (started : StartedLine) (operating : Operating) (symbol : Symbol) (line : ℕ) → symbol ≢ OpeningBracket → Counts 1 0 (at_operated started operating symbol line)
+pub operated_counts : (started : StartedLine) (operating : OperandOperator) (symbol : Symbol) (line : ℕ) → symbol ≢ OpeningBracket → Counts 1 0 (at_operated started operating symbol line)
 operated_counts started operating OpeningBracket line n = absurd (n refl)
 operated_counts started (Loads negated) symbol line n = count_at_operand started (OfStep (Loads negated)) symbol line
 operated_counts started (Stores storing) symbol line n = count_at_operand started (OfStep (Stores storing)) symbol line

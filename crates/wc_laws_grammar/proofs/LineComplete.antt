@@ -1,7 +1,7 @@
 -- What completes a line is taken by the walk, token by token.
 use Rattle.std.proofs.Common.{◌≡◌, ◌≢◌, ℕ, Bool, false, List, [], ◌∷◌, Option, Some, None, refl, ap, subst, append-nil, ◌∙◌, sym, inl, inr}
 use Rattle.std.specs.Prelude.{◌⊎◌, not, filter}
-use Rattle.wc_laws_grammar.specs.{Formal, formal_of, with_actual, LineShape, LabelAlone, Instructs, Opens, StartedLine, Listed, OperandOf, OfStep, OfOpening, OfArgument, InList, AtFirst, AtNext, AtAssign, AtValue, AtEnd, LineState, Start, Worded, Labelled, Operated, Jumped, Called, Instanced, Listing, Bracketed, Named, Pointed, Stepped, BracketedWith, Ended, after_operand, name_or_literal, at_operand, after_operator, at_operator, at_labelled, at_operated, at_list, at_bracketed, at_field, line_move, Operating, Loads, Stores, Applies, Operation, Operates, found, operation_of, step_of, truths}
+use Rattle.wc_laws_grammar.specs.{Formal, formal_of, with_actual, LineShape, LabelAlone, Instructs, Opens, StartedLine, OpenCall, OperandOf, OfStep, OfOpening, OfArgument, InList, AtFirst, AtNext, AtAssign, AtValue, AtEnd, LineState, Start, Worded, Labelled, Operated, Jumped, Called, Instanced, Listing, Bracketed, Named, Pointed, Stepped, BracketedWith, Ended, after_operand, name_or_literal, at_operand, after_operator, at_operator, at_labelled, at_operated, at_list, at_bracketed, at_field, line_move, OperandOperator, Loads, Stores, Applies, Operation, Operates, found, operation_of, step_of, truths}
 use Rattle.wc_laws_grammar.proofs.LineRests.{after_its_name, after_its_point, more_arguments, list_rest, list_end, call_shape, operand_rest, labelled_rest, rest_of}
 use Rattle.wc_laws_grammar.proofs.LineSound.{mark_on, one_argument}
 use Rattle.wc_laws_grammar.proofs.Skipping.{following, skip_next_is, skip_over_is}
@@ -85,7 +85,7 @@ operand_led : (started : StartedLine) (place : OperandOf) (x : Term) (line_shape
 operand_led started place x line_shape symbol line second kept tokens whole more (inl h) = at_place started place symbol line _ line_shape tokens (h.0 started place) (whole h.1)
 operand_led started place x line_shape symbol line second kept tokens whole more (inr h) = at_place started place symbol line _ line_shape tokens (h.1 started place) (more h.0 h.2)
 
-step_operand_led : (started : StartedLine) (operating : Operating) (line_shape : LineShape) (symbol : Symbol) (line : ℕ) (tokens : List Mark) → operand_rest started (OfStep operating) operand line_shape (mark_on symbol line ∷ tokens)
+step_operand_led : (started : StartedLine) (operating : OperandOperator) (line_shape : LineShape) (symbol : Symbol) (line : ℕ) (tokens : List Mark) → operand_rest started (OfStep operating) operand line_shape (mark_on symbol line ∷ tokens)
     → Leads (at_operand started (OfStep operating) symbol line) line_shape tokens
 step_operand_led started operating line_shape symbol line tokens r =
     operand_led started (OfStep operating) r.0 line_shape symbol line (grammar.symbol LineEnd) tokens tokens (λ k. (r.1, k)) (λ name k. (r.0, r.1, k)) (operand_first r.0 symbol line (grammar.symbol LineEnd) tokens r.2)
@@ -110,7 +110,7 @@ argument_is : (input : Formal) (first : Assignment) → input ≡ formal_of firs
 argument_is input first e = λ i. with_actual (sym e i) first.actual
 
 -- an argument's value, whose kept tokens these are
-kept_value_led : (started : StartedLine) (call : Listed) (input : Formal) (first : Assignment) (others : List Assignment) (line_shape : LineShape) (symbol : Symbol) (line : ℕ) (tokens : List Mark)
+kept_value_led : (started : StartedLine) (call : OpenCall) (input : Formal) (first : Assignment) (others : List Assignment) (line_shape : LineShape) (symbol : Symbol) (line : ℕ) (tokens : List Mark)
     → line_shape ≡ call_shape started call (first ∷ others) → input ≡ formal_of first
     → (skipping is_line_end (following (mark_on symbol line) (operand first.actual then more_arguments others)) then list_end) tokens
     → Leads (at_operand started (OfArgument call input) symbol line) line_shape tokens
@@ -123,7 +123,7 @@ kept_value_led started call input first others line_shape symbol line tokens e s
     is : line_shape ≡ call_shape started call (with_actual input first.actual ∷ others)
     is = e ∙ ap (λ a. call_shape started call (a ∷ others)) (argument_is input first same)
 
-value_led : (started : StartedLine) (call : Listed) (input : Formal) (line_shape : LineShape) (symbol : Symbol) (line : ℕ) (tokens : List Mark) → is_line_end_symbol symbol ≡ false
+value_led : (started : StartedLine) (call : OpenCall) (input : Formal) (line_shape : LineShape) (symbol : Symbol) (line : ℕ) (tokens : List Mark) → is_line_end_symbol symbol ≡ false
     → rest_of (Listing started call (AtValue input)) line_shape (mark_on symbol line ∷ tokens) → Leads (at_operand started (OfArgument call input) symbol line) line_shape tokens
 value_led started call input line_shape symbol line tokens no_line_end r = by_arguments r.0 r.1 (skip_next_is is_line_end (list_rest (AtValue input) r.0) no_line_end r.2)
   where
@@ -153,7 +153,7 @@ pub by_symbol : (f : Symbol → Option LineState) (symbol other : Symbol) (line_
 by_symbol f symbol other line_shape tokens e h = subst (λ s. Leads (f s) line_shape tokens) (sym e) h
 
 -- the end of a list in which nothing is missing
-closed_list : (started : StartedLine) (call : Listed) (item : InList) (line_shape : LineShape) (symbol : Symbol) (line : ℕ) (tokens : List Mark)
+closed_list : (started : StartedLine) (call : OpenCall) (item : InList) (line_shape : LineShape) (symbol : Symbol) (line : ℕ) (tokens : List Mark)
     → at_list started call item ClosingBracket line ≡ Some (Stepped started (Call call.condition call.instance call.arguments))
     → line_shape ≡ call_shape started call [] → list_end (mark_on symbol line ∷ tokens) → Leads (at_list started call item symbol line) line_shape tokens
 closed_list started call item line_shape symbol line tokens here e h =
@@ -162,7 +162,7 @@ closed_list started call item line_shape symbol line tokens here e h =
     (subst (λ o. Leads o line_shape tokens) (sym here) (e ∙ ap (λ arguments. Instructs started.label started.line (Call call.condition call.instance arguments)) (append-nil call.arguments), k.1))
 
 -- an argument begins
-argument_led : (started : StartedLine) (call : Listed) (item : InList) (first : Assignment) (others : List Assignment) (line_shape : LineShape) (symbol : Symbol) (line : ℕ) (tokens : List Mark)
+argument_led : (started : StartedLine) (call : OpenCall) (item : InList) (first : Assignment) (others : List Assignment) (line_shape : LineShape) (symbol : Symbol) (line : ℕ) (tokens : List Mark)
     → ((bytes : List ℕ) → at_list started call item (Identifier bytes) line ≡ Some (Listing started call (AtAssign (name_of bytes))))
     → line_shape ≡ call_shape started call (first ∷ others)
     → (skipping is_line_end (following (mark_on symbol line) (separated (grammar.symbol Comma) argument (first ∷ others))) then list_end) tokens
@@ -182,7 +182,7 @@ argument_led started call item first others line_shape symbol line tokens here e
       },
     )))
 
-first_led : (started : StartedLine) (call : Listed) (line_shape : LineShape) (symbol : Symbol) (line : ℕ) (tokens : List Mark) (more : List Assignment) → line_shape ≡ call_shape started call more
+first_led : (started : StartedLine) (call : OpenCall) (line_shape : LineShape) (symbol : Symbol) (line : ℕ) (tokens : List Mark) (more : List Assignment) → line_shape ≡ call_shape started call more
     → (list_rest AtFirst more [] × list_end (mark_on symbol line ∷ tokens)) ⊎ (skipping is_line_end (following (mark_on symbol line) (list_rest AtFirst more)) then list_end) tokens
     → Leads (at_list started call AtFirst symbol line) line_shape tokens
 first_led started call line_shape symbol line tokens [] e (inl k) = closed_list started call AtFirst line_shape symbol line tokens refl e k.1
@@ -190,7 +190,7 @@ first_led started call line_shape symbol line tokens [] e (inr k) = let f = k.be
 first_led started call line_shape symbol line tokens (first ∷ others) e (inl k) = absurd ((both_empty (both_empty k.0).0).0)
 first_led started call line_shape symbol line tokens (first ∷ others) e (inr k) = argument_led started call AtFirst first others line_shape symbol line tokens (λ bytes. refl) e k
 
-next_led : (started : StartedLine) (call : Listed) (line_shape : LineShape) (symbol : Symbol) (line : ℕ) (tokens : List Mark) (more : List Assignment) → line_shape ≡ call_shape started call more
+next_led : (started : StartedLine) (call : OpenCall) (line_shape : LineShape) (symbol : Symbol) (line : ℕ) (tokens : List Mark) (more : List Assignment) → line_shape ≡ call_shape started call more
     → (list_rest AtNext more [] × list_end (mark_on symbol line ∷ tokens)) ⊎ (skipping is_line_end (following (mark_on symbol line) (list_rest AtNext more)) then list_end) tokens
     → Leads (at_list started call AtNext symbol line) line_shape tokens
 next_led started call line_shape symbol line tokens [] e (inl k) = absurd k.0
@@ -198,7 +198,7 @@ next_led started call line_shape symbol line tokens [] e (inr k) = absurd k.begi
 next_led started call line_shape symbol line tokens (first ∷ others) e (inl k) = absurd ((both_empty (both_empty k.0).0).0)
 next_led started call line_shape symbol line tokens (first ∷ others) e (inr k) = argument_led started call AtNext first others line_shape symbol line tokens (λ bytes. refl) e k
 
-assign_led : (started : StartedLine) (call : Listed) (input : Name) (line_shape : LineShape) (symbol : Symbol) (line : ℕ) (tokens : List Mark) (more : List Assignment) → line_shape ≡ call_shape started call more
+assign_led : (started : StartedLine) (call : OpenCall) (input : Name) (line_shape : LineShape) (symbol : Symbol) (line : ℕ) (tokens : List Mark) (more : List Assignment) → line_shape ≡ call_shape started call more
     → (list_rest (AtAssign input) more [] × list_end (mark_on symbol line ∷ tokens)) ⊎ (skipping is_line_end (following (mark_on symbol line) (list_rest (AtAssign input) more)) then list_end) tokens
     → Leads (at_list started call (AtAssign input) symbol line) line_shape tokens
 assign_led started call input line_shape symbol line tokens [] e (inl k) = absurd k.0
@@ -213,7 +213,7 @@ assign_led started call input line_shape symbol line tokens (first ∷ others) e
     by_sign Into d s = by_symbol (λ s. at_list started call (AtAssign input) s line) symbol Assign line_shape tokens s (led Into d)
     by_sign OutOf d s = by_symbol (λ s. at_list started call (AtAssign input) s line) symbol Arrow line_shape tokens s (led OutOf d)
 
-end_led : (started : StartedLine) (call : Listed) (line_shape : LineShape) (symbol : Symbol) (line : ℕ) (tokens : List Mark) (more : List Assignment) → line_shape ≡ call_shape started call more
+end_led : (started : StartedLine) (call : OpenCall) (line_shape : LineShape) (symbol : Symbol) (line : ℕ) (tokens : List Mark) (more : List Assignment) → line_shape ≡ call_shape started call more
     → (list_rest AtEnd more [] × list_end (mark_on symbol line ∷ tokens)) ⊎ (skipping is_line_end (following (mark_on symbol line) (list_rest AtEnd more)) then list_end) tokens
     → Leads (at_list started call AtEnd symbol line) line_shape tokens
 end_led started call line_shape symbol line tokens [] e (inl k) = closed_list started call AtEnd line_shape symbol line tokens refl e k.1
@@ -231,7 +231,7 @@ over_led language line tokens h = elim (skip_over_is is_line_end language refl h
   | inr k ↦ k
 ]
 
-list_led : (started : StartedLine) (call : Listed) (item : InList) (line_shape : LineShape) (symbol : Symbol) (line : ℕ) (tokens : List Mark)
+list_led : (started : StartedLine) (call : OpenCall) (item : InList) (line_shape : LineShape) (symbol : Symbol) (line : ℕ) (tokens : List Mark)
     → rest_of (Listing started call item) line_shape (mark_on symbol line ∷ tokens) → Leads (at_list started call item symbol line) line_shape tokens
 list_led started call item line_shape LineEnd line tokens r = (r.0, r.1, over_led (list_rest item r.0) line tokens r.2)
 list_led started call AtFirst line_shape symbol line tokens r = first_led started call line_shape symbol line tokens r.0 r.1 (skip_next_is is_line_end (list_rest AtFirst r.0) refl r.2)
@@ -259,7 +259,7 @@ name_led started place make name (Field instance field) line_shape symbol line t
     by_symbol (λ s. line_move setting (Named started place name) s line colon) symbol Point line_shape tokens k.0 (there (Field instance field) e (given_first g.0 k.1))
 
 -- after a name in a call's list, at a token that is not a line end
-name_argument_led : (started : StartedLine) (call : Listed) (input : Formal) (name : Name) (x : Term) (more : List Assignment) (line_shape : LineShape) (symbol : Symbol) (line : ℕ) (tokens : List Mark) (setting : Setting) (colon : Bool)
+name_argument_led : (started : StartedLine) (call : OpenCall) (input : Formal) (name : Name) (x : Term) (more : List Assignment) (line_shape : LineShape) (symbol : Symbol) (line : ℕ) (tokens : List Mark) (setting : Setting) (colon : Bool)
     → line_shape ≡ call_shape started call (with_actual input x ∷ more)
     → ((after_its_name name x then more_arguments more) [] × list_end (mark_on symbol line ∷ tokens))
     ⊎ (skipping is_line_end (following (mark_on symbol line) (after_its_name name x then more_arguments more)) then list_end) tokens
@@ -404,17 +404,17 @@ labelled_led label (Opens other at operator x) symbol line tokens h =
     (inr (operator, x, refl, (λ i. Opens (h.0 i) (sym k.1 i) operator x), k.2))
 
 -- after an operator that takes an operand
-operated_led : (started : StartedLine) (operating : Operating) (line_shape : LineShape) (symbol : Symbol) (line : ℕ) (tokens : List Mark) → rest_of (Operated started operating) line_shape (mark_on symbol line ∷ tokens)
+operated_led : (started : StartedLine) (operating : OperandOperator) (line_shape : LineShape) (symbol : Symbol) (line : ℕ) (tokens : List Mark) → rest_of (Operated started operating) line_shape (mark_on symbol line ∷ tokens)
     → Leads (at_operated started operating symbol line) line_shape tokens
 operated_led started operating line_shape symbol line tokens (inl r) = subst (λ o. Leads o line_shape tokens) (sym (no_bracket operating symbol (first_is started operating line_shape symbol line tokens r))) (step_operand_led started operating line_shape symbol line tokens r)
   where
-    no_bracket : (operating : Operating) (symbol : Symbol) → symbol ≢ OpeningBracket → at_operated started operating symbol line ≡ at_operand started (OfStep operating) symbol line
+    no_bracket : (operating : OperandOperator) (symbol : Symbol) → symbol ≢ OpeningBracket → at_operated started operating symbol line ≡ at_operand started (OfStep operating) symbol line
     no_bracket operating OpeningBracket n = absurd (n refl)
     no_bracket (Loads negated) symbol n = refl
     no_bracket (Stores storing) symbol n = refl
     no_bracket (Applies operator) symbol n = refl
 
-    first_is : (started : StartedLine) (operating : Operating) (line_shape : LineShape) (symbol : Symbol) (line : ℕ) (tokens : List Mark) → operand_rest started (OfStep operating) operand line_shape (mark_on symbol line ∷ tokens) → symbol ≢ OpeningBracket
+    first_is : (started : StartedLine) (operating : OperandOperator) (line_shape : LineShape) (symbol : Symbol) (line : ℕ) (tokens : List Mark) → operand_rest started (OfStep operating) operand line_shape (mark_on symbol line ∷ tokens) → symbol ≢ OpeningBracket
     first_is started operating line_shape symbol line tokens r e =
         let l = step_operand_led started operating line_shape symbol line tokens r in
         subst (λ s. Leads (at_operand started (OfStep operating) s line) line_shape tokens) e l

@@ -1,6 +1,6 @@
 -- What completes a line that has started: for each state of the walk on a line, the token lists that go on from there to a shape.
 use Rattle.std.specs.Prelude.{◌≡◌, List, [], ◌∷◌, ◌++◌, Option, Some, ◌⊎◌}
-use Rattle.wc_laws_grammar.specs.{formal_of, with_actual, LineShape, LabelAlone, Instructs, Opens, StartedLine, Listed, OperandOf, OfStep, OfOpening, OfArgument, InList, AtFirst, AtNext, AtAssign, AtValue, AtEnd, LineState, Start, Worded, Labelled, Operated, Jumped, Called, Instanced, Listing, Bracketed, Named, Pointed, Stepped, BracketedWith, Ended, Applies, step_of}
+use Rattle.wc_laws_grammar.specs.{formal_of, with_actual, LineShape, LabelAlone, Instructs, Opens, StartedLine, OpenCall, OperandOf, OfStep, OfOpening, OfArgument, InList, AtFirst, AtNext, AtAssign, AtValue, AtEnd, LineState, Start, Worded, Labelled, Operated, Jumped, Called, Instanced, Listing, Bracketed, Named, Pointed, Stepped, BracketedWith, Ended, Applies, step_of}
 use Rattle.wc_model.specs.Definitions.{sign_of, symbol, identifier, operand, argument, call_list, instruction, opening, Setting, MayOccur, label_in, Language, nothing, empty, ◌then◌, ◌given◌, optional, each, separated, skipping, Mark, OpeningBracket, ClosingBracket, Comma, Colon, Point, LineEnd, is_line_end, Name}
 use Rattle.wc_model.specs.Language.Tree.{Word, Term, Constant, Address, Variable, Field, Assignment, Jump, Call}
 use Rattle.wc_model.specs.declared.operator.Operator.{Operator}
@@ -43,7 +43,7 @@ abbrev pub list_end : Language Mark
 list_end = symbol ClosingBracket then symbol LineEnd
 
 -- the shape of a call with these arguments too
-abbrev pub call_shape : StartedLine → Listed → List Assignment → LineShape
+abbrev pub call_shape : StartedLine → OpenCall → List Assignment → LineShape
 call_shape started call more = Instructs started.label started.line (Call call.condition call.instance (call.arguments ++ more))
 
 -- what completes a line after a part of an operand, if the operand's own rest is this

@@ -1,6 +1,6 @@
 -- After each token that the walk takes on a line, what completes the line from there completes it from before the token too.
 use Rattle.std.proofs.Common.{◌≡◌, ◌≢◌, ℕ, Bool, true, false, List, [], ◌∷◌, Option, Some, None, refl, ap, subst, if◌then◌else◌, append_assoc, append-nil, ◌∙◌, sym, inl, inr}
-use Rattle.wc_laws_grammar.specs.{Formal, with_actual, LineShape, LabelAlone, Instructs, Opens, StartedLine, Listed, OperandOf, OfStep, OfOpening, OfArgument, InList, AtFirst, AtNext, AtAssign, AtValue, AtEnd, LineState, Start, Worded, Labelled, Operated, Jumped, Called, Instanced, Listing, Bracketed, Named, Pointed, Stepped, BracketedWith, with_argument, after_operand, name_or_literal, at_operand, after_operator, at_operator, operator_or_label, at_start, simple_operator, at_start_in, at_labelled, at_operated, at_list, at_bracketed, after_name, at_field, line_move, Operating, Loads, Stores, Applies, Operation, Operates, Negates, Jumps, Calls, Returns, found, is_transfer, operation_of, operations, step_of, truths}
+use Rattle.wc_laws_grammar.specs.{Formal, with_actual, LineShape, LabelAlone, Instructs, Opens, StartedLine, OpenCall, OperandOf, OfStep, OfOpening, OfArgument, InList, AtFirst, AtNext, AtAssign, AtValue, AtEnd, LineState, Start, Worded, Labelled, Operated, Jumped, Called, Instanced, Listing, Bracketed, Named, Pointed, Stepped, BracketedWith, with_argument, after_operand, name_or_literal, at_operand, after_operator, at_operator, operator_or_label, at_start, simple_operator, at_start_in, at_labelled, at_operated, at_list, at_bracketed, after_name, at_field, line_move, OperandOperator, Loads, Stores, Applies, Operation, Operates, Negates, Jumps, Calls, Returns, found, is_transfer, operation_of, operations, step_of, truths}
 use Rattle.wc_laws_grammar.proofs.LineRests.{line_of, after_its_name, after_its_point, more_arguments, list_rest, call_shape, operand_rest, labelled_rest, rest_of}
 use Rattle.wc_laws_grammar.proofs.Skipping.{skip_next, skip_over, skip_none}
 use Rattle.wc_laws_grammar.proofs.WordLaws.{truth_found, not_truth, is_operator, is_operator_of, operation_in, operation_in_step}
@@ -25,7 +25,7 @@ abbrev pub AllowsFrom : LineState → Mark → Option LineState → Type 0
 AllowsFrom state mark next = Allows (λ m line_shape tokens. rest_of state line_shape (m ∷ tokens)) mark next
 
 -- one argument more, and the others
-pub one_argument : (started : StartedLine) (call : Listed) (input : Formal) (x : Term) (more : List Assignment)
+pub one_argument : (started : StartedLine) (call : OpenCall) (input : Formal) (x : Term) (more : List Assignment)
     → call_shape started (with_argument call input x) more ≡ call_shape started call (with_actual input x ∷ more)
 one_argument started call input x more =
     ap (λ arguments. Instructs started.label started.line (Call call.condition call.instance arguments)) (append_assoc call.arguments (with_actual input x ∷ []) more)
@@ -86,14 +86,14 @@ operand_allowed started place (Truth value) line = whole_operand started place o
 operand_allowed started place _ line = tt
 
 -- steps with an operand may be anywhere
-operand_holds : (setting : Setting) (operating : Operating) (x : Term) → MayOccur setting (step_of operating x)
+operand_holds : (setting : Setting) (operating : OperandOperator) (x : Term) → MayOccur setting (step_of operating x)
 operand_holds InBody operating x = tt
 operand_holds InParentheses (Loads negated) x = λ h. h
 operand_holds InParentheses (Stores storing) x = λ h. h
 operand_holds InParentheses (Applies operator) x = λ h. h
 
 -- what follows an operator with an operand
-operands_are : (operating : Operating) (x : Term) (tokens : List Mark) → operand x tokens → operands_of (step_of operating x) tokens
+operands_are : (operating : OperandOperator) (x : Term) (tokens : List Mark) → operand x tokens → operands_of (step_of operating x) tokens
 operands_are (Loads negated) x tokens h = h
 operands_are (Stores storing) x tokens h = h
 operands_are (Applies operator) x tokens h = h
@@ -215,11 +215,11 @@ label_allowed : (label : Word) (symbol : Symbol) (line : ℕ) → AllowsFrom (La
 label_allowed label LineEnd line = λ line_shape tokens r. rw r.0 (refl, line_end line tokens r.1)
 label_allowed label symbol line = labelled_operator label symbol line (operation_of symbol) refl
 
-operated_operand : (started : StartedLine) (operating : Operating) (symbol : Symbol) (line : ℕ) → AllowsFrom (Operated started operating) (mark_on symbol line) (at_operand started (OfStep operating) symbol line)
+operated_operand : (started : StartedLine) (operating : OperandOperator) (symbol : Symbol) (line : ℕ) → AllowsFrom (Operated started operating) (mark_on symbol line) (at_operand started (OfStep operating) symbol line)
 operated_operand started operating symbol line =
     allows_more (λ m line_shape tokens. operand_rest started (OfStep operating) operand line_shape (m ∷ tokens)) (λ m line_shape tokens. rest_of (Operated started operating) line_shape (m ∷ tokens)) (mark_on symbol line) _ (λ line_shape tokens r. inl r) (operand_allowed started (OfStep operating) symbol line)
 
-operated_allowed : (started : StartedLine) (operating : Operating) (symbol : Symbol) (line : ℕ) → AllowsFrom (Operated started operating) (mark_on symbol line) (at_operated started operating symbol line)
+operated_allowed : (started : StartedLine) (operating : OperandOperator) (symbol : Symbol) (line : ℕ) → AllowsFrom (Operated started operating) (mark_on symbol line) (at_operated started operating symbol line)
 operated_allowed started (Applies operator) OpeningBracket line = λ line_shape tokens r. inr (operator, r.0, refl, r.1, next refl r.2)
 operated_allowed started operating symbol line = operated_operand started operating symbol line
 
@@ -229,7 +229,7 @@ first_argument : (bytes : List ℕ) (line : ℕ) (first : Assignment) (others : 
 first_argument bytes line first others tokens k = regroup (next (ap (λ n. Some n) k.0) (regroup k.1))
 
 -- after a comma or the bracket an argument begins
-argument_allowed : (started : StartedLine) (call : Listed) (item : InList) (bytes : List ℕ) (line : ℕ)
+argument_allowed : (started : StartedLine) (call : OpenCall) (item : InList) (bytes : List ℕ) (line : ℕ)
     → ((first : Assignment) (others : List Assignment) (tokens : List Mark) → separated (grammar.symbol Comma) argument (first ∷ others) tokens → list_rest item (first ∷ others) tokens)
     → AllowsFrom (Listing started call item) (mark_on (Identifier bytes) line) (Some (Listing started call (AtAssign (name_of bytes))))
 argument_allowed started call item bytes line f line_shape tokens r =
@@ -240,7 +240,7 @@ argument_allowed started call item bytes line f line_shape tokens r =
     begins_with (first ∷ others) ts k = f first others _ (first_argument bytes line first others ts k)
 
 -- the list's end
-closing_allowed : (started : StartedLine) (call : Listed) (item : InList) (line : ℕ) → list_rest item [] []
+closing_allowed : (started : StartedLine) (call : OpenCall) (item : InList) (line : ℕ) → list_rest item [] []
     → AllowsFrom (Listing started call item) (mark_on ClosingBracket line) (Some (Stepped started (Call call.condition call.instance call.arguments)))
 closing_allowed started call item line none line_shape tokens r = (
   [],
@@ -253,7 +253,7 @@ sign_no_line_end : (direction : Direction) (line : ℕ) → is_line_end (mark_on
 sign_no_line_end Into line = refl
 sign_no_line_end OutOf line = refl
 
-sign_allowed : (started : StartedLine) (call : Listed) (formal : Formal) (line : ℕ)
+sign_allowed : (started : StartedLine) (call : OpenCall) (formal : Formal) (line : ℕ)
     → AllowsFrom (Listing started call (AtAssign formal.name)) (mark_on (sign_of formal.direction) line) (Some (Listing started call (AtValue formal)))
 sign_allowed started call formal line line_shape tokens r =
     (r.0, r.1, skip_next is_line_end (list_rest (AtAssign formal.name) r.0) (sign_no_line_end formal.direction line) (before (λ ts k. begins_with r.0 _ k) r.2))
@@ -262,21 +262,21 @@ sign_allowed started call formal line line_shape tokens r =
     begins_with [] ts k = absurd k
     begins_with (first ∷ others) ts k = (ap (λ (f : Formal). f.name) k.0, next (ap (λ (f : Formal). sign_of f.direction) k.0) k.1)
 
-comma_allowed : (started : StartedLine) (call : Listed) (line : ℕ) → AllowsFrom (Listing started call AtEnd) (mark_on Comma line) (Some (Listing started call AtNext))
+comma_allowed : (started : StartedLine) (call : OpenCall) (line : ℕ) → AllowsFrom (Listing started call AtEnd) (mark_on Comma line) (Some (Listing started call AtNext))
 comma_allowed started call line line_shape tokens r = (r.0, r.1, skip_next is_line_end (more_arguments r.0) refl (before (λ ts k. begins_with r.0 _ k) r.2))
   where
     begins_with : (more : List Assignment) (ts : List Mark) → list_rest AtNext more ts → more_arguments more (mark_on Comma line ∷ ts)
     begins_with [] ts k = absurd k
     begins_with (first ∷ others) ts k = regroup (next refl k)
 
-value_allowed : (started : StartedLine) (call : Listed) (input : Formal) (symbol : Symbol) (line : ℕ)
+value_allowed : (started : StartedLine) (call : OpenCall) (input : Formal) (symbol : Symbol) (line : ℕ)
     → AllowsFrom (Listing started call (AtValue input)) (mark_on symbol line) (at_operand started (OfArgument call input) symbol line)
 value_allowed started call input symbol line =
     allows_more (λ m line_shape tokens. operand_rest started (OfArgument call input) operand line_shape (m ∷ tokens)) (λ m line_shape tokens. rest_of (Listing started call (AtValue input)) line_shape (m ∷ tokens)) (mark_on symbol line) _
     (λ line_shape tokens r. (with_actual input r.0 ∷ r.1, r.2, before (λ ts k. (refl, k)) r.3))
     (operand_allowed started (OfArgument call input) symbol line)
 
-list_allowed : (started : StartedLine) (call : Listed) (item : InList) (symbol : Symbol) (line : ℕ) → AllowsFrom (Listing started call item) (mark_on symbol line) (at_list started call item symbol line)
+list_allowed : (started : StartedLine) (call : OpenCall) (item : InList) (symbol : Symbol) (line : ℕ) → AllowsFrom (Listing started call item) (mark_on symbol line) (at_list started call item symbol line)
 list_allowed started call item LineEnd line = λ line_shape tokens r. (r.0, r.1, skip_over is_line_end (list_rest item r.0) refl r.2)
 list_allowed started call AtFirst (Identifier bytes) line = argument_allowed started call AtFirst bytes line (λ first others tokens k. k)
 list_allowed started call AtFirst ClosingBracket line = closing_allowed started call AtFirst line refl

@@ -6,7 +6,7 @@ use Rattle.wc_model.specs.Language.Tree.{Step, Load, Store, Apply, Negate, Jump,
 use Rattle.wc_model.specs.declared.operator.Condition.TheVariants.{Always, IfTrue, IfFalse}
 use Rattle.wc_model.specs.declared.operator.Operator.{Operator}
 use Rattle.wc_model.specs.declared.operator.Operator.TheVariants.{And, Andn, Or, Orn, Xor, Xorn, Add, Sub, Mul, Div, Mod, Gt, Ge, Eq, Ne, Le, Lt}
-use Rattle.wc_model.specs.declared.operator.Storing.TheVariants.{Result, Negation, Set, Reset}
+use Rattle.wc_model.specs.declared.operator.StoreKind.TheVariants.{Result, Negation, Set, Reset}
 
 -- the words of all operators
 abbrev pub operator_words : List Name

@@ -25,7 +25,7 @@ Ordered (AtLine p) = AreBlocks p.before
 Ordered (OnLine p line) = AreBlocks p.before × IsOpen line
 Ordered (Closed p) = AreBlocks p.before
 
--- the same of the place after a token, if it is taken
+-- the place after a token that is taken is in order
 abbrev pub OrderedNext : Option State → Type 0
 OrderedNext None = Unit {0}
 OrderedNext (Some next) = Ordered next

@@ -10,7 +10,7 @@ use Rattle.wc_model.specs.Definitions.{same_name, IsOn, Setting, InBody, InParen
 use Rattle.wc_model.specs.Text.Grammar as grammar
 use Rattle.wc_model.specs.declared.operator.Condition.TheVariants.{Always}
 use Rattle.wc_model.specs.declared.operator.Operator.TheVariants.{And}
-use Rattle.wc_model.specs.declared.operator.Storing.TheVariants.{Result}
+use Rattle.wc_model.specs.declared.operator.StoreKind.TheVariants.{Result}
 use Rattle.wc_model.specs.declared.source.UnitKind.{UnitKind}
 use Rattle.wc_model.specs.declared.source.UnitKind.TheVariants.{FunctionBlock, Program}
 

@@ -7,7 +7,7 @@ use Rattle.wc_laws_grammar.proofs.Bounds.{IsDeepEnough, PositionWithin, Within, 
 use Rattle.wc_laws_grammar.proofs.Exits.{AreBlocks}
 use Rattle.wc_laws_grammar.proofs.LineBounds.{Counts, IsSteady, count_operator, fitted, fitted_by, operated_counts, steady}
 use Rattle.wc_laws_grammar.proofs.LineComplete.{labelled_operator}
-use Rattle.wc_laws_grammar.specs.{LineShape, LabelAlone, Instructs, Opens, operator_or_label, StartedLine, LineState, Start, Labelled, Operated, Bracketed, Ended, at_labelled, at_operated, at_operator, at_start, after_operator, line_move, simple_operator, InDeclaration, Undeclared, AfterNames, AfterComma, AfterColon, AfterType, AfterAssign, AfterValue, State, Outside, Unnamed, Declaring, AtLine, OnLine, Closed, Raised, at_value, begins_transfer, started_line, after_closing, after_line, after_unit, body_move, body_start, declaration_move, has_content, has_name, has_program, inside_move, is_full, is_identifier, is_program, fault_at, fault_at_closing, fault_at_line, fault_on_line, fault_at_operator, fault_at_unit, fault_if, first_fault, move, on_line, section_of_word, section_or_line, start_move, unit_with, Applies, Operating, Loads, Stores, Operation, found, is_transfer, literal_of, operation_of, operations, unit_kinds}
+use Rattle.wc_laws_grammar.specs.{LineShape, LabelAlone, Instructs, Opens, operator_or_label, StartedLine, LineState, Start, Labelled, Operated, Bracketed, Ended, at_labelled, at_operated, at_operator, at_start, after_operator, line_move, simple_operator, InDeclaration, Undeclared, AfterNames, AfterComma, AfterColon, AfterType, AfterAssign, AfterValue, State, Outside, Unnamed, Declaring, AtLine, OnLine, Closed, Raised, at_value, begins_transfer, started_line, after_closing, after_line, after_unit, body_move, body_start, declaration_move, has_content, has_name, has_program, inside_move, is_full, is_identifier, is_program, fault_at, fault_at_closing, fault_at_line, fault_on_line, fault_at_operator, fault_at_unit, fault_if, first_fault, move, on_line, section_of_word, section_or_line, start_move, unit_with, Applies, OperandOperator, Loads, Stores, Operation, found, is_transfer, literal_of, operation_of, operations, unit_kinds}
 use Rattle.wc_laws_grammar.proofs.LineStart.{operator_taken}
 use Rattle.wc_laws_grammar.proofs.WalkedLines.{ends_no_unit}
 use Rattle.wc_laws_grammar.proofs.WithinOn.{HasStarted, RejectsColon, simple_rejects}
@@ -279,7 +279,7 @@ labelled_was_good p label LineEnd line colon None e =
 labelled_was_good p label symbol line colon None e = subst (λ o. WasGood (OnLine p (Labelled label)) (fault_if (is_some (operation_of symbol) && is_full p) TooMany line) colon (started_line p (at_operator (Some label) line o))) (sym e) tt
 
 -- after an operator with an operand
-operated_was_good : (p : Position) (started : StartedLine) (operating : Operating) (symbol : Symbol) (line : ℕ) (colon : Bool)
+operated_was_good : (p : Position) (started : StartedLine) (operating : OperandOperator) (symbol : Symbol) (line : ℕ) (colon : Bool)
     → WasGood (OnLine p (Operated started operating)) (fault_on_line p (Operated started operating) symbol line) colon (started_line p (at_operated started operating symbol line))
 operated_was_good p started (Applies operator) OpeningBracket line colon =
     line_was_good p (OnLine p (Operated started (Applies operator))) _ colon 1 1 (Some (Bracketed started operator)) (refl, refl) (λ k b. ((k.0, k.1, k.2, omega (arith, k.3)), b))
@@ -289,7 +289,7 @@ operated_was_good p started (Stores storing) OpeningBracket line colon = tt
 operated_was_good p started operating symbol line colon =
     line_was_good p (OnLine p (Operated started operating)) _ colon 1 0 (at_operated started operating symbol line) (operated_counts started operating symbol line (λ e. cc)) (λ k b. (k, b)) (λ state s k. inl (no_bracket operating))
   where
-    no_bracket : (operating : Operating) → fault_on_line p (Operated started operating) symbol line ≡ None
+    no_bracket : (operating : OperandOperator) → fault_on_line p (Operated started operating) symbol line ≡ None
     no_bracket (Loads negated) = refl
     no_bracket (Stores storing) = refl
     no_bracket (Applies operator) = refl

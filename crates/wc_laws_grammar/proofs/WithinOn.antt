@@ -5,7 +5,7 @@ use Rattle.std.proofs.lemmas.List.{length-append}
 use Rattle.std.specs.Prelude.{◌&&◌, is_some, nat_le, option_map}
 use Rattle.wc_laws_grammar.proofs.Bounds.{HasCapacity, IsDeepEnough, Within, closed_within, counted, opened}
 use Rattle.wc_laws_grammar.proofs.LineBounds.{CountsOnce, Fits, IsSteady, WithinNext, fits_by, fits_on, labelled_once, operated_counts, simple_once, start_once, steady}
-use Rattle.wc_laws_grammar.specs.{StartedLine, LineState, Start, Worded, Labelled, Operated, at_labelled, at_operated, at_operator, at_start, after_operator, line_move, simple_operator, InDeclaration, Undeclared, AfterNames, AfterComma, AfterColon, AfterType, AfterAssign, AfterValue, State, Outside, Unnamed, Declaring, AtLine, OnLine, Closed, Raised, at_value, begins_transfer, started_line, after_closing, after_unit, body_move, body_start, declaration_move, has_content, has_name, has_program, inside_move, is_full, is_identifier, fault_at, fault_at_closing, fault_at_line, fault_on_line, fault_at_operator, fault_at_unit, fault_if, first_fault, move, named_unit, section_of_word, section_or_line, start_move, unit_with, Applies, Operating, Loads, Stores, Operation, Operates, Negates, Jumps, Calls, Returns, found, is_transfer, literal_of, operation_of, unit_kinds}
+use Rattle.wc_laws_grammar.specs.{StartedLine, LineState, Start, Worded, Labelled, Operated, at_labelled, at_operated, at_operator, at_start, after_operator, line_move, simple_operator, InDeclaration, Undeclared, AfterNames, AfterComma, AfterColon, AfterType, AfterAssign, AfterValue, State, Outside, Unnamed, Declaring, AtLine, OnLine, Closed, Raised, at_value, begins_transfer, started_line, after_closing, after_unit, body_move, body_start, declaration_move, has_content, has_name, has_program, inside_move, is_full, is_identifier, fault_at, fault_at_closing, fault_at_line, fault_on_line, fault_at_operator, fault_at_unit, fault_if, first_fault, move, named_unit, section_of_word, section_or_line, start_move, unit_with, Applies, OperandOperator, Loads, Stores, Operation, Operates, Negates, Jumps, Calls, Returns, found, is_transfer, literal_of, operation_of, unit_kinds}
 use Rattle.wc_model.specs.Definitions.{same_name, end_var, end_word, IsBodyWithinLimits, lines_before, lines_opened, most_depth, most_lines, most_units, Symbol, Identifier, ClosingBracket, OpeningBracket, Colon, Comma, Semicolon, Assign, LineEnd, name_of, Opening, Position, setting_in, NotAllowedInParentheses, NotOneProgramLast, ReadingFault, TooDeep, TooMany, EmptyParentheses, ParenthesisNotPaired, ProgramUnit, Word}
 use Rattle.wc_model.specs.declared.source.Section.{Section}
 use Rattle.wc_model.specs.declared.source.UnitKind.{UnitKind}
@@ -163,7 +163,7 @@ labelled_within p label symbol line j h =
     (λ s. sym (ap (λ b. b && is_full p) s) ∙ test_fails (is_some (operation_of symbol) && is_full p) TooMany line j)
 
 -- after an operator with an operand
-operated_within : (p : Position) (started : StartedLine) (operating : Operating) (symbol : Symbol) (line : ℕ) → fault_on_line p (Operated started operating) symbol line ≡ None → Within (OnLine p (Operated started operating)) → WithinNext (started_line p (at_operated started operating symbol line))
+operated_within : (p : Position) (started : StartedLine) (operating : OperandOperator) (symbol : Symbol) (line : ℕ) → fault_on_line p (Operated started operating) symbol line ≡ None → Within (OnLine p (Operated started operating)) → WithinNext (started_line p (at_operated started operating symbol line))
 operated_within p started (Applies operator) OpeningBracket line j h =
     let b = below most_depth (length p.openings) (test_fails (nat_le most_depth (length p.openings)) TooDeep started.line j) in
     (h.0, h.1, h.2, omega (arith, b))

@@ -1,13 +1,13 @@
 -- What the tables of words say: a word represents one thing, and is found.
 use Rattle.wc_model.proofs.Common.{◌≡◌, ℕ, Bool, true, false, List, [], ◌∷◌, map, Some, None, refl, ap, subst, ◌∙◌, inl, inr, arith, nat_tests, AllByRecursion}
 use Rattle.std.specs.Prelude.{◌≢◌, if◌then◌else◌, ◌&&◌, eqb}
-use Rattle.wc_laws_grammar.specs.Words.{found, Operating, Loads, Stores, Applies, Operation, Operates, Negates, Jumps, Calls, Returns, operation_word, all_operations, operations, worded, step_of, operation_of, unit_kinds, section_words, truths}
+use Rattle.wc_laws_grammar.specs.Words.{found, OperandOperator, Loads, Stores, Applies, Operation, Operates, Negates, Jumps, Calls, Returns, operation_word, all_operations, operations, worded, step_of, operation_of, unit_kinds, section_words, truths}
 use Rattle.wc_model.specs.Definitions.{same_name, truth_word, unit_word, section_word, Symbol, Identifier, Ampersand, AmpersandN, Mark, name_in, Name, name_of, IsOperator, IsOperatorOf}
 use Rattle.wc_model.specs.Language.Tree.{Term, Step, Load, Store, Apply, Negate, Jump, Call, Return}
 use Rattle.wc_model.specs.declared.operator.Condition.TheVariants.{Always}
 use Rattle.wc_model.specs.declared.operator.Operator.{Operator}
 use Rattle.wc_model.specs.declared.operator.Operator.TheVariants.{And, Andn, Or, Orn, Xor, Xorn, Add, Sub, Mul, Div, Mod, Gt, Ge, Eq, Ne, Le, Lt}
-use Rattle.wc_model.specs.declared.operator.Storing.TheVariants.{Result}
+use Rattle.wc_model.specs.declared.operator.StoreKind.TheVariants.{Result}
 use Rattle.wc_model.specs.declared.source.Section.{Section}
 use Rattle.wc_model.specs.declared.source.UnitKind.{UnitKind}
 
@@ -121,7 +121,7 @@ is_operator_of (Return condition) (Identifier bytes) line e = from_word _ _ e
 is_operator_of _ _ line e = absurd (cc)
 
 -- the step of an operator with its operand begins with it
-pub operation_in_step : (operating : Operating) (x : Term) → operation_in (step_of operating x) ≡ Operates operating
+pub operation_in_step : (operating : OperandOperator) (x : Term) → operation_in (step_of operating x) ≡ Operates operating
 operation_in_step (Loads negated) x = refl
 operation_in_step (Stores storing) x = refl
 operation_in_step (Applies operator) x = refl

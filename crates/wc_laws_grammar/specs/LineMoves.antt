@@ -1,6 +1,6 @@
 -- A walk over the tokens of one line of a body, token by token.
 use Rattle.std.specs.Prelude.{ℕ, Bool, true, false, List, [], ◌∷◌, ◌++◌, Option, Some, None, if◌then◌else◌}
-use Rattle.wc_laws_grammar.specs.Words.{Operating, Applies, Operation, Operates, Negates, Jumps, Calls, Returns, found, is_transfer, operation_of, operations, step_of, truths}
+use Rattle.wc_laws_grammar.specs.Words.{OperandOperator, Applies, Operation, Operates, Negates, Jumps, Calls, Returns, found, is_transfer, operation_of, operations, step_of, truths}
 use Rattle.wc_model.specs.Definitions.{Setting, InBody, InParentheses, Name, name_of}
 use Rattle.wc_model.specs.Text.Marks.{Symbol, Identifier, Whole, Duration, Truth, Direct, OpeningBracket, ClosingBracket, Comma, Colon, Point, Assign, Arrow, LineEnd}
 use Rattle.wc_model.specs.Language.Tree.{Word, Term, Constant, Address, Variable, Field, Assignment, Step, Negate, Jump, Call, Return}
@@ -22,7 +22,7 @@ pub record StartedLine : Type 0 where
   pub line : ℕ
 
 -- a call whose list has started: the condition, the instance and the arguments so far
-pub record Listed : Type 0 where
+pub record OpenCall : Type 0 where
   pub condition : Condition
   pub instance : Name
   pub arguments : List Assignment
@@ -41,9 +41,9 @@ formal_of a = record { direction = a.direction; name = a.formal }
 
 -- whose operand is here: an instruction's, an opening line's, or that of one of a call's list
 pub data OperandOf : Type 0 where
-  OfStep : (operating : Operating) → OperandOf
+  OfStep : (operating : OperandOperator) → OperandOf
   OfOpening : (operator : Operator) → OperandOf
-  OfArgument : (call : Listed) (formal : Formal) → OperandOf
+  OfArgument : (call : OpenCall) (formal : Formal) → OperandOf
 
 -- where a call's list is: after its bracket, a comma, an input or output, its `:=` or `=>`, or a whole argument
 pub data InList : Type 0 where
@@ -62,13 +62,13 @@ pub data LineState : Type 0 where
   -- after a label's colon
   Labelled : (label : Word) → LineState
   -- after an operator that takes an operand
-  Operated : (started : StartedLine) (operating : Operating) → LineState
+  Operated : (started : StartedLine) (operating : OperandOperator) → LineState
   -- after a jump's operator, and after a call's
   Jumped Called : (started : StartedLine) (condition : Condition) → LineState
   -- after a call's instance
   Instanced : (started : StartedLine) (condition : Condition) (instance : Name) → LineState
   -- in a call's list
-  Listing : (started : StartedLine) (call : Listed) (item : InList) → LineState
+  Listing : (started : StartedLine) (call : OpenCall) (item : InList) → LineState
   -- after an operator's bracket
   Bracketed : (started : StartedLine) (operator : Operator) → LineState
   -- after a name where an operand is, and after the point after it
@@ -81,7 +81,7 @@ pub data LineState : Type 0 where
   Ended : (line_shape : LineShape) → LineState
 
 -- the argument after others
-abbrev pub with_argument : Listed → Formal → Term → Listed
+abbrev pub with_argument : OpenCall → Formal → Term → OpenCall
 with_argument call formal actual = record call { arguments = call.arguments ++ with_actual formal actual ∷ [] }
 
 -- after a whole operand
@@ -144,12 +144,12 @@ at_labelled label LineEnd line = Some (Ended (LabelAlone label))
 at_labelled label symbol line = at_operator (Some label) line (operation_of symbol)
 
 -- after an operator that takes an operand; one of the deferrable ones may open a parenthesis
-abbrev pub at_operated : StartedLine → Operating → Symbol → ℕ → Option LineState
+abbrev pub at_operated : StartedLine → OperandOperator → Symbol → ℕ → Option LineState
 at_operated started (Applies operator) OpeningBracket line = Some (Bracketed started operator)
 at_operated started operating symbol line = at_operand started (OfStep operating) symbol line
 
 -- after a call's list, or in it
-abbrev pub at_list : StartedLine → Listed → InList → Symbol → ℕ → Option LineState
+abbrev pub at_list : StartedLine → OpenCall → InList → Symbol → ℕ → Option LineState
 at_list started call item LineEnd line = Some (Listing started call item)
 at_list started call AtFirst (Identifier bytes) line = Some (Listing started call (AtAssign (name_of bytes)))
 at_list started call AtFirst ClosingBracket line = Some (Stepped started (Call call.condition call.instance call.arguments))

@@ -6,8 +6,8 @@ use Rattle.wc_model.specs.declared.operator.Condition.{Condition}
 use Rattle.wc_model.specs.declared.operator.Condition.TheVariants.{Always, IfTrue, IfFalse}
 use Rattle.wc_model.specs.declared.operator.Operator.{Operator}
 use Rattle.wc_model.specs.declared.operator.Operator.TheVariants.{And, Andn, Or, Orn, Xor, Xorn, Add, Sub, Mul, Div, Mod, Gt, Ge, Eq, Ne, Le, Lt}
-use Rattle.wc_model.specs.declared.operator.Storing.{Storing}
-use Rattle.wc_model.specs.declared.operator.Storing.TheVariants.{Result, Negation, Set, Reset}
+use Rattle.wc_model.specs.declared.operator.StoreKind.{StoreKind}
+use Rattle.wc_model.specs.declared.operator.StoreKind.TheVariants.{Result, Negation, Set, Reset}
 use Rattle.wc_model.specs.declared.source.Section.{Section}
 use Rattle.wc_model.specs.declared.source.Section.TheVariants.{Input, Output, Own}
 use Rattle.wc_model.specs.declared.source.UnitKind.{UnitKind}
@@ -21,19 +21,19 @@ found [] name = None
 found (entry ∷ entries) name = if same_name name entry.0 then Some entry.1 else found entries name
 
 -- an operator that takes an operand
-pub data Operating : Type 0 where
-  Loads : (negated : Bool) → Operating
-  Stores : (storing : Storing) → Operating
-  Applies : (operator : Operator) → Operating
+pub data OperandOperator : Type 0 where
+  Loads : (negated : Bool) → OperandOperator
+  Stores : (storing : StoreKind) → OperandOperator
+  Applies : (operator : Operator) → OperandOperator
 
 -- an operator: with an operand, alone, with a label, or with an instance
 pub data Operation : Type 0 where
-  Operates : (operating : Operating) → Operation
+  Operates : (operating : OperandOperator) → Operation
   Negates : Operation
   Jumps Calls Returns : (condition : Condition) → Operation
 
 -- the word of an operator that takes an operand
-abbrev pub operating_word : Operating → Name
+abbrev pub operating_word : OperandOperator → Name
 operating_word (Loads negated) = load_word negated
 operating_word (Stores storing) = store_word storing
 operating_word (Applies operator) = operator_word operator
@@ -105,7 +105,7 @@ literal_of (Truth value) = Some (BoolValue value)
 literal_of _ = None
 
 -- the step of an operator with its operand
-abbrev pub step_of : Operating → Term → Step
+abbrev pub step_of : OperandOperator → Term → Step
 step_of (Loads negated) term = Load negated term
 step_of (Stores storing) term = Store storing term
 step_of (Applies operator) term = Apply operator term

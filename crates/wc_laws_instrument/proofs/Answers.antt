@@ -7,7 +7,7 @@ use Rattle.std.specs.List.{list_all, slice_index_or}
 use Rattle.wc_laws_instrument.proofs.Indication.{tare_same_at_zero, tare_ended, tare_new, tare_same, no_intervals}
 use Rattle.wc_laws_instrument.proofs.Rounding.{quotient_bounds}
 use Rattle.wc_model.specs.Definitions.{Sample, SetZero, SetTare, ClearTare, History, refused_unless, has_sample, is_stable, is_over, is_under, is_valid, is_centre_of_zero, can_be_tared, zero_refusal, tare_refusal, from_zero, active_tare, is_tare_active, tare_counts, intervals_of, gross_intervals, net_intervals, in_units, tare_value, gross, net, PlateData, IsPlate, allowed_intervals, grams, kilograms, tonnes, nearest, nearest_above_zero}
-use Rattle.wc_model.specs.Instrument.Answers.{last_digits, minus_of, value_text, weight_text, Mode, Shown, Tare, Asked, Plain, ZeroRefused, TareRefused, status_byte, mode_byte, weight_asked, answer, answer_to, answers_to, command_of, after_command, after_requests}
+use Rattle.wc_model.specs.Instrument.Answers.{last_digits, minus_of, value_text, weight_text, Mode, Shown, Tare, RequestOutcome, Plain, ZeroRefused, TareRefused, status_byte, mode_byte, weight_asked, answer, answer_to, answers_to, command_of, after_command, after_requests}
 
 -- how far from 0 the nearest number is
 abs_nearest : (num : ℤ) (span : ℕ) → unsigned_abs (nearest num span) ≡ nearest_above_zero (unsigned_abs num) span
@@ -244,7 +244,7 @@ one_of_five false false false true v w x y z = refl
 one_of_five false false false false v w x y z = refl
 
 -- the status is one byte
-length_status : (p : PlateData) (history : History) (asked : Asked) → length (status_byte p history asked) ≡ 1
+length_status : (p : PlateData) (history : History) (asked : RequestOutcome) → length (status_byte p history asked) ≡ 1
 length_status p history Plain = one_of_five (not (has_sample history)) (is_over p history) (is_under p history) (is_centre_of_zero p history) 73 79 85 90 32
 length_status p history ZeroRefused = refl
 length_status p history TareRefused = refl
@@ -262,7 +262,7 @@ length_unit unit (suc (suc zero), l, e) = ap length (sym e)
 length_unit unit (suc (suc (suc k)), l, e) = absurd (omega arith)
 
 -- an answer has twenty bytes
-pub length_answer : (p : PlateData) (history : History) (mode : Mode) (asked : Asked) → IsPlate p → length (answer p history mode asked) ≡ 20
+pub length_answer : (p : PlateData) (history : History) (mode : Mode) (asked : RequestOutcome) → IsPlate p → length (answer p history mode asked) ≡ 20
 length_answer p history mode asked plate =
     simp length-append (omega (
       arith,

@@ -3,7 +3,7 @@ use Rattle.wc_model.proofs.Common.{◌≡◌, ℕ, suc, ◌+◌, ◌*◌, ◌/�
 use Rattle.std.proofs.lemmas.Bool.{and_parts, or_cases, true≢false, leb-true}
 use Rattle.std.specs.Prelude.{ℤ, pos, negsuc, neg_ℤ, ◌≤ℤ◌, ◌*ℤ◌, int_le, int_div, int_rem, unsigned_abs, Option, Some, None, Ok, find, codes, Contains}
 use borrow.Author.Differences.{neg_is}
-use Rattle.wc_model.specs.Definitions.{PlateData, IsPlate, grams, kilograms, tonnes, grams_of, allowed_intervals, least_sample, greatest_sample, Table, Written, written_of, line_unit, is_between, is_interval, is_count, rules_after_unit, plate_from, unless_broken, validated, plate_of_written, plate_of}
+use Rattle.wc_model.specs.Definitions.{PlateData, IsPlate, grams, kilograms, tonnes, grams_of, allowed_intervals, least_sample, greatest_sample, Table, KeyValues, written_of, line_unit, is_between, is_interval, is_count, rules_after_unit, plate_from, unless_broken, validated, plate_of_written, plate_of}
 
 -- if no rule is broken, each holds
 each_holds : (a b c d e : Bool) →
@@ -72,7 +72,7 @@ whole_count (negsuc m) (pos b) a same h =
 whole_count (negsuc m) (negsuc b) a same h = absurd (cc)
 
 -- what is written, if no rule is broken, is in its ranges
-in_ranges : (w : Written) (unit : List ℕ) → Contains (grams ∷ kilograms ∷ tonnes ∷ []) unit →
+in_ranges : (w : KeyValues) (unit : List ℕ) → Contains (grams ∷ kilograms ∷ tonnes ∷ []) unit →
     find {X = ℕ × Bool} (λ rule. not rule.1) (rules_after_unit w unit) ≡ None → IsPlate (plate_from w unit)
 in_ranges w unit known none =
     let decimals : ℕ = unsigned_abs w.decimals in
@@ -105,15 +105,15 @@ in_ranges w unit known none =
     }
 
 -- a plate that is checked and accepted
-validated_is_plate : (w : Written) (unit : Option (List ℕ)) (p : PlateData) → ((u : List ℕ) → unit ≡ Some u → Contains (grams ∷ kilograms ∷ tonnes ∷ []) u) →
+validated_is_plate : (w : KeyValues) (unit : Option (List ℕ)) (p : PlateData) → ((u : List ℕ) → unit ≡ Some u → Contains (grams ∷ kilograms ∷ tonnes ∷ []) u) →
     validated w unit ≡ Ok p → IsPlate p
 validated_is_plate w None p known e = absurd (cc)
 validated_is_plate w (Some unit) p known e =
     let fine = none_broken (find {X = ℕ × Bool} (λ rule. not rule.1) (rules_after_unit w unit)) (plate_from w unit) p e in
     subst (λ q. IsPlate q) fine.1 (in_ranges w unit (known unit refl) fine.0)
 
--- the same of what is written
-written_is_plate : (w : Option Written) (p : PlateData) → plate_of_written w ≡ Ok p → IsPlate p
+-- the keys of a plate that are accepted make a plate in its ranges
+written_is_plate : (w : Option KeyValues) (p : PlateData) → plate_of_written w ≡ Ok p → IsPlate p
 written_is_plate None p e = absurd (cc)
 written_is_plate (Some w) p e = validated_is_plate w (line_unit w.unit) p
     (λ unit same. unit_known (bytes_eq w.unit (codes "g")) (bytes_eq w.unit (codes "kg")) (bytes_eq w.unit (codes "t")) unit same) e

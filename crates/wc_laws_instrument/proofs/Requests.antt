@@ -18,7 +18,7 @@ module _ (p : ℕ → Bool) where
   taken_none : (x : ℕ) (xs : List ℕ) → p x ≡ false → take_while p (x ∷ xs) ≡ []
   taken_none x xs h = rw h
 
-  -- the same of what is beyond
+  -- what is beyond is then what is beyond the rest
   beyond_more : (x : ℕ) (xs : List ℕ) → p x ≡ true → beyond (x ∷ xs) ≡ beyond xs
   beyond_more x xs h = ap (λ t. drop (length t) (x ∷ xs)) (taken_more x xs h)
 
@@ -32,7 +32,7 @@ module _ (p : ℕ → Bool) where
   taken_on (x ∷ xs) ys h = taken_more x (xs ++ ys) (and_parts (p x) (list_all p xs) h).0
       ∙ ap (λ t. x ∷ t) (taken_on xs ys (and_parts (p x) (list_all p xs) h).1)
 
-  -- the same of what is beyond
+  -- and what is beyond is what is beyond the rest
   beyond_on : (xs ys : List ℕ) → list_all p xs ≡ true → beyond (xs ++ ys) ≡ beyond ys
   beyond_on [] ys h = refl
   beyond_on (x ∷ xs) ys h = beyond_more x (xs ++ ys) (and_parts (p x) (list_all p xs) h).0
@@ -53,7 +53,7 @@ module _ (p : ℕ → Bool) where
     | inr stops ↦ taken_none x (xs ++ ys) stops ∙ sym (taken_none x xs stops)
   ]
 
-  -- the same of how it goes on beyond
+  -- nor does it to the byte that follows what passes
   begins_within : (byte : ℕ) (xs ys : List ℕ) → list_all p xs ≡ false →
       begins_with byte (beyond (xs ++ ys)) ≡ begins_with byte (beyond xs)
   begins_within byte [] ys h = absurd (true≢false h)
@@ -231,7 +231,7 @@ completed_again before (x ∷ first) second =
     ∙ ap (λ b. (completed_by x (open_request before) ++ completed (before ++ (x ∷ [])) first) ++ completed b second)
     (append_assoc before (x ∷ []) first)
 
--- the same of requests
+-- the requests of a stream in two parts are those of the first, and then those of the second after it
 pub requests_in_again : (before first second : List ℕ) →
     requests_in before (first ++ second) ≡ requests_in before first ++ requests_in (before ++ first) second
 requests_in_again before first second =

@@ -4,7 +4,7 @@ use Rattle.std.specs.Prelude.{ℤ, pos, negsuc, ◌-ℤ◌, ◌*ℤ◌, int_le, 
 use Rattle.wc_laws_instrument.proofs.Indication.{zero_new, zero_same, tare_ended, tare_same_at_zero, tare_new, tare_same}
 use Rattle.wc_laws_instrument.proofs.LastItems.{full_window, last_of_window, one_more}
 use Rattle.wc_laws_instrument.specs.Preludes.{HaveSameReadings}
-use Rattle.wc_model.specs.Instrument.Answers.{Asked, Mode, Plain, Shown, Tare, TareRefused, ZeroRefused, answer, mode_byte, scale_status, status_byte, weight_asked, weight_text}
+use Rattle.wc_model.specs.Instrument.Answers.{RequestOutcome, Mode, Plain, Shown, Tare, TareRefused, ZeroRefused, answer, mode_byte, scale_status, status_byte, weight_asked, weight_text}
 use Rattle.wc_model.specs.Definitions.{CommandRefusal, active_tare, from_zero, gross, gross_intervals, has_sample, in_units, intervals_of, is_centre_of_zero, is_over, is_stable, is_tare_active, is_under, is_valid, net, net_intervals, present_counts, refused_unless, shown, spread_of, tare_counts, tare_refusal, tare_value, window_of, zero_point, zero_refusal, PlateData, image_with, number_of_bits, ClearTare, Event, History, Sample, SetTare, SetZero, last_items, last_sample, samples}
 
 -- what all readings depend on
@@ -82,7 +82,7 @@ module _ (p : PlateData) (history other : History) (some : 0 < p.window) (same :
       else if same_centre i then codes "Z"
       else codes " "
 
-  same_status_byte : (asked : Asked) → status_byte p other asked ≡ status_byte p history asked
+  same_status_byte : (asked : RequestOutcome) → status_byte p other asked ≡ status_byte p history asked
   same_status_byte Plain = same_scale_status
   same_status_byte ZeroRefused = refl
   same_status_byte TareRefused = refl
@@ -95,7 +95,7 @@ module _ (p : PlateData) (history other : History) (some : 0 < p.window) (same :
   same_weight_asked Shown = same_shown
   same_weight_asked Tare = λ i. if same_valid i then Some (same_tare_value i) else None
 
-  pub same_answer : (mode : Mode) (asked : Asked) → answer p other mode asked ≡ answer p history mode asked
+  pub same_answer : (mode : Mode) (asked : RequestOutcome) → answer p other mode asked ≡ answer p history mode asked
   same_answer mode asked = λ i.
       10 ∷ same_status_byte asked i ++ codes "1" ++ same_mode_byte mode i ++ (if same_stable i then codes " " else codes "M") ++ codes " "
       ++ weight_text p.decimals (same_weight_asked mode i) ++ p.unit ++ (13 ∷ [])

@@ -3,7 +3,7 @@
 use Rattle.std.specs.Ordering.{int_eq}
 use Rattle.std.specs.Prelude.{◌≡◌, ℕ, zero, suc, ◌+◌, ◌*◌, ◌≤◌, List, [], ◌∷◌, ◌++◌, length, map, replicate, codes, ℤ, ◌+ℤ◌, Option, Some, None, option_map, if◌then◌else◌}
 use Rattle.wc_laws_instrument.specs.Changes.{lines_from}
-use Rattle.wc_model.specs.Instrument.Answers.{Asked, Mode, answer}
+use Rattle.wc_model.specs.Instrument.Answers.{RequestOutcome, Mode, answer}
 use Rattle.wc_model.specs.Definitions.{active_tare, gross, has_sample, is_centre_of_zero, is_over, is_stable, is_tare_active, is_under, is_valid, net, shown, tare_refusal, tare_value, window_of, zero_point, zero_refusal, PlateData, carriage_return, line_feed, open_request, History, Bytes, Counts, Inputs, LogRow, Past, RowData, answers_after, history_of, line_bytes, Program, answer_lines, report_lines, state_after}
 use Rattle.wc_model.specs.Run.ProcessImage.{image_after, inputs_of}
 
@@ -104,7 +104,7 @@ pub record HaveSameReadings (p : PlateData) (history other : History) : Type 0 w
   pub net : net p other ≡ net p history
   pub shown : shown p other ≡ shown p history
   pub tare_value : tare_value p other ≡ tare_value p history
-  pub answer : (mode : Mode) (asked : Asked) → answer p other mode asked ≡ answer p history mode asked
+  pub answer : (mode : Mode) (asked : RequestOutcome) → answer p other mode asked ≡ answer p history mode asked
 
 -- After `second` the rows `others` come to what the rows `rows` come to after `first`.
 --     answers    the line's answer to each row

@@ -5,7 +5,7 @@ ghost use Rattle.std.specs.List.{list_all};
 ghost use Rattle.wc_laws_instrument.specs.Changes.{ReportsFromTheChange, ReportsUpToTheChange, RowsAreRun};
 ghost use Rattle.wc_laws_instrument.specs.Logs.{JobIsItsSections, RowsAreInOrder, ScanLinesComeOut};
 ghost use Rattle.wc_laws_instrument.specs.Preludes.{CanBeCut, ReportsCanBeCut};
-ghost use Rattle.wc_model.specs.Instrument.Answers.{Asked, Mode, answer};
+ghost use Rattle.wc_model.specs.Instrument.Answers.{RequestOutcome, Mode, answer};
 ghost use Rattle.wc_model.specs.Definitions.{EffectsOf, History, samples, IsFreeOfScans, IsFreeOfPrograms, is_stable, Record, row_of, PlateData, IsPlate, Table, plate_of, Program, IsCutAnywhere, carriage_return, is_text, line_feed, requests, requests_in, HasOneNearest, LogRow, Past};
 
 /// Exactly one whole number is nearest to a quotient by a positive span, and it is the one that is computed.
@@ -81,7 +81,7 @@ pub fn a_job_is_its_sections()
 
 /// Every answer with a weight has twenty bytes: no weight that is shown takes more than ten.
 pub fn answers_have_twenty_bytes()
-    ensures { (p : PlateData) (history : History) (mode : Mode) (asked : Asked) → IsPlate p
+    ensures { (p : PlateData) (history : History) (mode : Mode) (asked : RequestOutcome) → IsPlate p
         → length (answer p history mode asked) ≡ 20 }
 {}
 

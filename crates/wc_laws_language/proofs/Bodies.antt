@@ -4,7 +4,7 @@ use Rattle.wc_model.specs.Definitions.{takes, divides, is_ahead, step_rules, ope
 use Rattle.wc_model.specs.Language.Tree.{Word, Term, Step, Load, Store as StoreStep, Apply, Negate, Jump, Call, Return, Lines, End, Alone, Plain, Nested}
 use Rattle.wc_model.specs.declared.kind.Kind.{Kind}
 use Rattle.wc_model.specs.declared.operator.Operator.{Operator}
-use Rattle.wc_model.specs.declared.operator.Storing.TheVariants.{Result as StoreResult, Negation, Set, Reset}
+use Rattle.wc_model.specs.declared.operator.StoreKind.TheVariants.{Result as StoreResult, Negation, Set, Reset}
 use Rattle.wc_model.specs.declared.value.Value.{Value}
 use Rattle.wc_laws_language.proofs.Applying.{applied}
 use Rattle.wc_laws_language.proofs.CallSteps.{call_goes}

@@ -92,7 +92,7 @@ Greatest P found = MatchOption found ((q : List Item) → P q → ⊥) (λ p. P 
 abbrev pub Worst : (List Item → Way → Type 0) → (Way → List Item → Type 0) → (Way → List Item → Type 0) → Found → Type 0
 Worst executed any worst found = MatchOption found ((q : List Item) → Joined executed any q → ⊥) (λ p. ChoosesWorst executed any worst p)
 
--- the same of the lines left
+-- the lines left have this worst path from a way on, or there is none
 abbrev pub WorstFrom : (Way → List Item → Type 0) → (Way → List Item → Type 0) → Way → Found → Type 0
 WorstFrom any worst way found = MatchOption found ((q : List Item) → any way q → ⊥) (λ p. worst way p × ((q : List Item) → any way q → length q ≤ length p))
 

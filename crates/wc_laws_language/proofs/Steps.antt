@@ -9,8 +9,8 @@ use Rattle.wc_model.specs.declared.operator.Condition.{Condition}
 use Rattle.wc_model.specs.declared.operator.Condition.TheVariants.{Always, IfTrue, IfFalse}
 use Rattle.wc_model.specs.declared.operator.Operator.{Operator}
 use Rattle.wc_model.specs.declared.operator.Operator.TheVariants.{Div, Mod}
-use Rattle.wc_model.specs.declared.operator.Storing.{Storing}
-use Rattle.wc_model.specs.declared.operator.Storing.TheVariants.{Result as StoreResult, Negation, Set, Reset}
+use Rattle.wc_model.specs.declared.operator.StoreKind.{StoreKind}
+use Rattle.wc_model.specs.declared.operator.StoreKind.TheVariants.{Result as StoreResult, Negation, Set, Reset}
 use Rattle.wc_model.specs.declared.value.Value.{Value}
 use Rattle.wc_model.specs.declared.value.Value.TheVariants.{Bool as Truth, Dint, Time}
 use Rattle.wc_laws_language.proofs.Applying.{GivesAfter, applied, by_divisor, truth_of}
@@ -112,7 +112,7 @@ load_goes here store fits line true operand following kind result c =
     (value_goes (LeadsTo here.scope (Load true operand) following kind) store (negated v.0) (next line store) (Truth n.0) n.1 ((refl, refl), SameSlots-refl store))
 
 -- a step that stores
-pub stored_goes : (here : Context) (store : Store) → FitsScope store here.instance here.scope → (line : ℕ) (storing : Storing) (target : Term) (following : List BodyLine) (kind : Option Kind) (value result : Value) → Agrees kind (Some result) → is_some (entity_of here.scope target) ≡ true → is_writable (entity_of here.scope target) ≡ true → term_kind here.scope target ≡ Some (kind_of value) → GoesWell (LeadsTo here.scope (StoreStep storing target) following kind) store (stored here line store target value result)
+pub stored_goes : (here : Context) (store : Store) → FitsScope store here.instance here.scope → (line : ℕ) (storing : StoreKind) (target : Term) (following : List BodyLine) (kind : Option Kind) (value result : Value) → Agrees kind (Some result) → is_some (entity_of here.scope target) ≡ true → is_writable (entity_of here.scope target) ≡ true → term_kind here.scope target ≡ Some (kind_of value) → GoesWell (LeadsTo here.scope (StoreStep storing target) following kind) store (stored here line store target value result)
 stored_goes here store fits line storing target following kind value result agrees found writable k =
     let w = term_written here store fits target value k writable (writable_is_stored here.scope target found writable) in
     store_goes (LeadsTo here.scope (StoreStep storing target) following kind) store (written_to here store target value) (λ new. Goes (Running (Some result)) new (At line ∷ [])) w.0 w.1 ((agrees, refl), w.2)
@@ -125,7 +125,7 @@ store_result_goes here store fits line target following (Some k) (Some value) a 
     stored_goes here store fits line StoreResult target following (Some k) value value a c.0 c.1.0 (is_of-sound k (term_kind here.scope target) c.1.1.1.0 ∙ ap Some (sym a))
 
 -- STN, S and R of a BOOL
-pub set_goes : (here : Context) (store : Store) → FitsScope store here.instance here.scope → (line : ℕ) (storing : Storing) (target : Term) (following : List BodyLine) (value b : Bool) → is_some (entity_of here.scope target) ≡ true → is_writable (entity_of here.scope target) ≡ true → term_kind here.scope target ≡ Some KindBool → GoesWell (LeadsTo here.scope (StoreStep storing target) following (Some KindBool)) store (set_where here line store target value (Truth b))
+pub set_goes : (here : Context) (store : Store) → FitsScope store here.instance here.scope → (line : ℕ) (storing : StoreKind) (target : Term) (following : List BodyLine) (value b : Bool) → is_some (entity_of here.scope target) ≡ true → is_writable (entity_of here.scope target) ≡ true → term_kind here.scope target ≡ Some KindBool → GoesWell (LeadsTo here.scope (StoreStep storing target) following (Some KindBool)) store (set_where here line store target value (Truth b))
 set_goes here store fits line storing target following value true found writable k = stored_goes here store fits line storing target following (Some KindBool) (Truth value) (Truth true) refl found writable k
 set_goes here store fits line storing target following value false found writable k = ((refl, refl), SameSlots-refl store)
 
@@ -138,13 +138,13 @@ truth_known (Some k) (Some value) e a =
     let t = truth_of value (a ∙ sym same) in
     (t.0, ap Some (sym same), ap Some t.1)
 
-pub store_goes_on : (here : Context) (store : Store) → FitsScope store here.instance here.scope → (line : ℕ) (storing : Storing) (target : Term) (following : List BodyLine) (b : Bool) → Clean (store_checks here.scope line storing target (Some KindBool)) → GoesWell (LeadsTo here.scope (StoreStep storing target) following (Some KindBool)) store (store_effect here line store storing target (Truth b))
+pub store_goes_on : (here : Context) (store : Store) → FitsScope store here.instance here.scope → (line : ℕ) (storing : StoreKind) (target : Term) (following : List BodyLine) (b : Bool) → Clean (store_checks here.scope line storing target (Some KindBool)) → GoesWell (LeadsTo here.scope (StoreStep storing target) following (Some KindBool)) store (store_effect here line store storing target (Truth b))
 store_goes_on here store fits line StoreResult target following b c = stored_goes here store fits line StoreResult target following (Some KindBool) (Truth b) (Truth b) refl c.0 c.1.0 (is_of-sound KindBool (term_kind here.scope target) c.1.1.1.0)
 store_goes_on here store fits line Negation target following b c = stored_goes here store fits line Negation target following (Some KindBool) (Truth (not b)) (Truth b) refl c.0 c.1.0 (is_of-sound KindBool (term_kind here.scope target) c.1.1.1.1.0)
 store_goes_on here store fits line Set target following b c = set_goes here store fits line Set target following true b c.0 c.1.0 (is_of-sound KindBool (term_kind here.scope target) c.1.1.1.1.0)
 store_goes_on here store fits line Reset target following b c = set_goes here store fits line Reset target following false b c.0 c.1.0 (is_of-sound KindBool (term_kind here.scope target) c.1.1.1.1.0)
 
-pub store_truth_goes : (here : Context) (store : Store) → FitsScope store here.instance here.scope → (line : ℕ) (storing : Storing) (target : Term) (following : List BodyLine) (kind : Option Kind) (result : Option Value) → is_bool kind ≡ true → Agrees kind result → Clean (store_checks here.scope line storing target kind) → GoesWell (LeadsTo here.scope (StoreStep storing target) following kind) store (given result (store_effect here line store storing target))
+pub store_truth_goes : (here : Context) (store : Store) → FitsScope store here.instance here.scope → (line : ℕ) (storing : StoreKind) (target : Term) (following : List BodyLine) (kind : Option Kind) (result : Option Value) → is_bool kind ≡ true → Agrees kind result → Clean (store_checks here.scope line storing target kind) → GoesWell (LeadsTo here.scope (StoreStep storing target) following kind) store (given result (store_effect here line store storing target))
 store_truth_goes here store fits line storing target following kind result e a c =
     let t = truth_known kind result e a in
     subst (λ (k : Option Kind). GoesWell (LeadsTo here.scope (StoreStep storing target) following k) store (given result (store_effect here line store storing target))) (sym t.1)

@@ -5,8 +5,8 @@ use Rattle.wc_model.specs.Language.Tree.{Word, Term, Assignment, inputs_of, outp
 use Rattle.wc_model.specs.declared.operator.Condition.{Condition}
 use Rattle.wc_model.specs.declared.operator.Condition.TheVariants.{Always, IfTrue, IfFalse}
 use Rattle.wc_model.specs.declared.operator.Operator.{Operator}
-use Rattle.wc_model.specs.declared.operator.Storing.{Storing}
-use Rattle.wc_model.specs.declared.operator.Storing.TheVariants.{Result as StoreResult, Negation, Set, Reset}
+use Rattle.wc_model.specs.declared.operator.StoreKind.{StoreKind}
+use Rattle.wc_model.specs.declared.operator.StoreKind.TheVariants.{Result as StoreResult, Negation, Set, Reset}
 use Rattle.wc_model.specs.declared.value.Value.{Value}
 use Rattle.wc_model.specs.declared.value.Value.TheVariants.{Bool as Truth, Dint, Time}
 
@@ -52,7 +52,7 @@ set_is here line store target value (Truth false) = (refl, refl)
 set_is here line store target value (Dint n) = tt
 set_is here line store target value (Time t) = tt
 
-pub store_is : (here : Context) (line : ℕ) (store : Store) (storing : Storing) (target : Term) (result : Value) → EffectIs (OneLine line) (store_effect here line store storing target result)
+pub store_is : (here : Context) (line : ℕ) (store : Store) (storing : StoreKind) (target : Term) (result : Value) → EffectIs (OneLine line) (store_effect here line store storing target result)
 store_is here line store StoreResult target result = stored_is here line store target result result
 store_is here line store Negation target result = from_value_is (OneLine line) (negated result) (λ value. stored here line store target value result) (λ value. stored_is here line store target value result)
 store_is here line store Set target result = set_is here line store target true result

@@ -6,7 +6,7 @@ ghost use Rattle.std.specs.Str.Parse.{digits_value};
 ghost use Rattle.wc_lexer.specs.Numbers.{IsParsedPart, IsParsedSum, are_later, parsed_fraction, within_64_bits};
 ghost use Rattle.wc_model.specs.Definitions.{begins, is_empty, is_point, is_underscore, are_digits, value_of_digits, are_duration_parts, billionths, duration_of, duration_parts, milliseconds_of, parts_of, unit_named, without_separator};
 
-use crate::numbers::{are_digits, signed, value_of_digits};
+use crate::numbers::{are_digits, signed_number, value_of_digits};
 use crate::prefixes::{
     begins_with, cut_at, following_first, length_before, letterless_length, letters_length,
 };
@@ -288,7 +288,7 @@ fn milliseconds(negative: bool, text: &[u8]) -> Option<i32>
 {
     let sum = all_billionths(text)?;
     if sum % 1_000_000_000 == 0 {
-        signed(negative, sum / 1_000_000_000)
+        signed_number(negative, sum / 1_000_000_000)
     } else {
         None
     }

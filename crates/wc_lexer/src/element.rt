@@ -6,7 +6,7 @@ ghost use Rattle.wc_model.specs.Definitions.{from_bracket, begins, starts_identi
 
 use crate::Shape;
 use crate::lengths::lexeme_length;
-use crate::numbers::signed;
+use crate::numbers::signed_number;
 use crate::plain_numbers::plain_number;
 use crate::prefixes::{begins_with, following_first, identifier_prefix};
 use crate::shapes::{is_name, shape};
@@ -92,7 +92,7 @@ fn any_number(text: &[u8]) -> LexicalElement
     let Some((count, size)) = plain_number(text) else {
         return parse_rare_lexeme(text);
     };
-    match signed(false, size) {
+    match signed_number(false, size) {
         Some(value) => LexicalElement::Lexeme(count, Shape::Whole(value)),
         None => parse_rare_lexeme(text),
     }

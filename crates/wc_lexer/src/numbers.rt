@@ -114,7 +114,7 @@ fn base(text: &[u8]) -> Option<u64>
 }
 
 /// The value of a number without a sign, if it has 64 bits.
-fn unsigned(text: &[u8]) -> Option<u64>
+fn unsigned_number(text: &[u8]) -> Option<u64>
     ensures { result ≡ option_and_then within_64_bits (unsigned_of text.now) }
 {
     match cut_at(text, b'#') {
@@ -127,7 +127,7 @@ fn unsigned(text: &[u8]) -> Option<u64>
 }
 
 /// The number of that size and sign, if it has 32 bits.
-pub(crate) fn signed(negative: bool, size: u64) -> Option<i32>
+pub(crate) fn signed_number(negative: bool, size: u64) -> Option<i32>
     ensures { result ≡ within_32_bits (if negative then neg_ℤ (pos size) else pos size) }
 {
     if size < 1 << 31 {
@@ -146,7 +146,7 @@ pub(crate) fn number_in_32_bits(negative: bool, size: Option<u64>) -> Option<i32
         ≡ option_and_then
         (λ number. within_32_bits (if negative then neg_ℤ (pos number) else pos number)) size }
 {
-    signed(negative, size?)
+    signed_number(negative, size?)
 }
 
 /// The value of a whole-number literal.
@@ -158,6 +158,6 @@ pub(crate) fn whole_number(text: &[u8]) -> Option<i32>
     } else if begins_with(text, b'+') {
         number_in_32_bits(false, digits(10, following_first(text)))
     } else {
-        number_in_32_bits(false, unsigned(text))
+        number_in_32_bits(false, unsigned_number(text))
     }
 }

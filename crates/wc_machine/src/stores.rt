@@ -11,7 +11,7 @@ use wc_model::{Fault, Place, SlotKind};
 use wc_store::Store;
 
 /// The store with the first numbers at its places.
-fn filled<S: Store>(store: S, initials: &[i64]) -> S
+fn with_initials<S: Store>(store: S, initials: &[i64]) -> S
     requires first { AreFirst (S.slot_kinds store) initials.now }
     requires numbers { length (S.numbers store) ≡ length initials.now }
     requires capacity { length initials.now ≤ 65536 }
@@ -42,7 +42,7 @@ pub(crate) fn first_store<S: Store>(
     ensures memory { IsOkUnless result Fault.Memory }
 {
     let store = S::make(alloc, kinds)?;
-    Ok(filled(store, initials))
+    Ok(with_initials(store, initials))
 }
 
 /// The store of a new text's first numbers, with the old text's numbers at the places that keep them.

@@ -48,7 +48,7 @@ pub use Rattle.wc_model.specs.Instrument.Answers.{AskTare, AskWeight, Clear, Com
 pub use Rattle.wc_model.specs.Instrument.Effects.{EffectsOf}
 pub use Rattle.wc_model.specs.Instrument.Independence.{IsFreeOfPrograms, IsFreeOfScans, indicator_rows}
 pub use Rattle.wc_model.specs.Instrument.Indication.{CommandRefusal, Motion, Range, active_tare, acts_on_tare, can_be_tared, from_zero, gross, gross_intervals, has_sample, in_units, intervals_of, is_accepted_zero, is_centre_of_zero, is_near_zero, is_over, is_stable, is_tare_active, is_under, is_valid, net, net_intervals, present_counts, refused_unless, shown, spread_of, tare_counts, tare_left_by, tare_refusal, tare_value, window_of, zero_point, zero_refusal}
-pub use Rattle.wc_model.specs.Instrument.PlateTable.{Table, Written, is_between, is_count, is_interval, line_unit, plate_from, plate_of, plate_of_written, rules_after_unit, unless_broken, validated, written_of}
+pub use Rattle.wc_model.specs.Instrument.PlateTable.{Table, KeyValues, is_between, is_count, is_interval, line_unit, plate_from, plate_of, plate_of_written, rules_after_unit, unless_broken, validated, written_of}
 pub use Rattle.wc_model.specs.Instrument.Plates.{IsPlate, PlateData, allowed_intervals, grams, grams_of, greatest_sample, kilograms, least_sample, tonnes}
 pub use Rattle.wc_model.specs.Instrument.Requests.{IsCutAnywhere, carriage_return, completed_by, is_text, line_feed, open_at, open_request, opened_by, requests, requests_in}
 pub use Rattle.wc_model.specs.Instrument.Rounding.{HasOneNearest, nearest, nearest_above_zero}

@@ -1,5 +1,5 @@
 use crate::block::StandardBlock;
-use crate::operator::{Condition, Operator, Storing};
+use crate::operator::{Condition, Operator, StoreKind};
 use crate::place::Place;
 
 /// One flat line of a body. Executed, it is one count, but for the body of a block of the text,
@@ -20,7 +20,7 @@ pub enum Code {
     },
     /// ST, STN, S, R.
     Store {
-        storing: Storing,
+        storing: StoreKind,
         target: Place,
     },
     /// An operator with a literal.

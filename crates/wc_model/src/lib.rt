@@ -41,7 +41,7 @@ pub use limits::{
     MOST_LINES, MOST_PLACES, MOST_ROWS, MOST_SPENT, MOST_STEPS, MOST_UNITS, MOST_VARIABLES,
 };
 pub use operand::{Operand, Word};
-pub use operator::{Condition, Direction, Operator, Storing};
+pub use operator::{Condition, Direction, Operator, StoreKind};
 pub use place::{Path, Place};
 pub use putting::{or_memory, put_bytes};
 pub use source::{Decl, Initial, Section, Source, Unit, UnitKind};

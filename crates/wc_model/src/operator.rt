@@ -56,7 +56,7 @@ pub enum Direction {
 
 /// What is stored of the current result (IEC 61131-3:2003, table 52).
 #[derive(Clone, Copy, PartialEq, Eq)]
-pub enum Storing {
+pub enum StoreKind {
     /// ST: the result.
     Result,
     /// STN: its negation.

@@ -1,5 +1,5 @@
 use crate::operand::{Operand, Word};
-use crate::operator::{Condition, Direction, Operator, Storing};
+use crate::operator::{Condition, Direction, Operator, StoreKind};
 use std::alloc::Global;
 
 /// A line of a body: a label, an instruction, or both.
@@ -24,7 +24,7 @@ pub enum Instr<'a> {
     },
     /// ST, STN, S, R.
     Store {
-        storing: Storing,
+        storing: StoreKind,
         target: Operand<'a>,
         line: u32,
     },

@@ -11,7 +11,7 @@ pub on_ok : {X E P Q : Type 0} (r : Result X E) → (P → Q) → OnOk r P → O
 on_ok (Ok x) go h = go h
 on_ok (Err e) go h = tt
 
--- the same of two such promises
+-- two promises of a call that succeeds lead together to what is wanted
 pub both_ok : {X E P Q R : Type 0} (r : Result X E) → (P → Q → R) → OnOk r P → OnOk r Q → OnOk r R
 both_ok (Ok x) go h k = go h k
 both_ok (Err e) go h k = tt

@@ -29,7 +29,7 @@ contents_next before v vs =
     map-append (λ (p : List Name × Content). p.1) (below v.name (own_places before v)) (places_of before vs)
     ∙ ap (λ cs. cs ++ contents_of (places_of before vs)) (contents_below v.name (own_places before v))
 
--- the same of what is said of contents
+-- what a function gives of them, the first variable's first
 pub reported_next : {X : Type 0} (f : Content → X) (before : List ProgramUnit) (v : Variable) (vs : List Variable) (own : List Content) → contents_of (own_places before v) ≡ own →
     map f (contents_of (places_of before (v ∷ vs))) ≡ map f own ++ map f (contents_of (places_of before vs))
 reported_next f before v vs own e =

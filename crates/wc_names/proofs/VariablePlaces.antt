@@ -65,7 +65,7 @@ other_name (n ∷ names) name other k none there = by k there (both (same_name n
     by (suc k) there parts onward = onward k parts.1 there
 
 -- the variable with this number among others, with its row, and the entry at the number of a place
-pub record Located (before : List ProgramUnit) (first : ℕ) (vs : List Variable) (rows : List Row) (number : ℕ) (entry : List Name × Content) (k : ℕ) : Type 0 where
+pub record VariablePlace (before : List ProgramUnit) (first : ℕ) (vs : List Variable) (rows : List Row) (number : ℕ) (entry : List Name × Content) (k : ℕ) : Type 0 where
   pub v : Variable
   pub row : Row
   pub row_there : slice_get rows k ≡ Some row
@@ -96,7 +96,7 @@ ends_within before first v (w ∷ vs) (r ∷ rows) number entry h least there fo
 
 -- in the first variable
 located_here : (before : List ProgramUnit) (first : ℕ) (v : Variable) (vs : List Variable) (row : Row) (rows : List Row) (number : ℕ) (entry : List Name × Content) → IsRow before first v row → first ≤ number →
-    slice_get (places_of before (v ∷ vs)) (number - first) ≡ Some entry → number - first < length (below v.name (own_places before v)) → Located before first (v ∷ vs) (row ∷ rows) number entry 0
+    slice_get (places_of before (v ∷ vs)) (number - first) ≡ Some entry → number - first < length (below v.name (own_places before v)) → VariablePlace before first (v ∷ vs) (row ∷ rows) number entry 0
 located_here before first v vs row rows number entry is least there within =
     let own = own_places before v in
     let size : length (below v.name own) ≡ length own = length-map own (λ p. (v.name ∷ p.0, p.1)) in
@@ -118,7 +118,7 @@ located_here before first v vs row rows number entry is least there within =
     }
 
 pub located : (before : List ProgramUnit) (first : ℕ) (vs : List Variable) (rows : List Row) (number : ℕ) (entry : List Name × Content) → AreRows before first vs rows → AreDifferent (map (λ w. w.name) vs) → first ≤ number →
-    slice_get (places_of before vs) (number - first) ≡ Some entry → (k : ℕ) → k < length rows → ((j : ℕ) (d : Row) → j ≤ k → (slice_index_or rows j d).first ≤ number) → ((j : ℕ) (d : Row) → k < j → j < length rows → number < (slice_index_or rows j d).first) → Located before first vs rows number entry k
+    slice_get (places_of before vs) (number - first) ≡ Some entry → (k : ℕ) → k < length rows → ((j : ℕ) (d : Row) → j ≤ k → (slice_index_or rows j d).first ≤ number) → ((j : ℕ) (d : Row) → k < j → j < length rows → number < (slice_index_or rows j d).first) → VariablePlace before first vs rows number entry k
 located before first [] [] number entry h different least there k l started following = absurd (omega (arith, l))
 located before first [] (r ∷ rows) number entry h different least there k l started following = absurd h
 located before first (v ∷ vs) [] number entry h different least there k l started following = absurd h
@@ -156,7 +156,7 @@ none_started before first (v ∷ vs) [] number entry h least there following = a
 none_started before first (v ∷ vs) (r ∷ rows) number entry h least there following = let l = following 0 r (omega arith) in let b = h.0.begins in omega (arith, l, b, least)
 
 -- what is found is the variable with the place
-pub found_is : (before : List ProgramUnit) (u : ProgramUnit) (table : UnitTable) (number : ℕ) (entry : List Name × Content) (k : ℕ) (name : Name) (row : Row) (h : IsTableOf before u table) → Located before (first_place u) (variables_of u) table.rows.items number entry k →
+pub found_is : (before : List ProgramUnit) (u : ProgramUnit) (table : UnitTable) (number : ℕ) (entry : List Name × Content) (k : ℕ) (name : Name) (row : Row) (h : IsTableOf before u table) → VariablePlace before (first_place u) (variables_of u) table.rows.items number entry k →
     Some name ≡ slice_get table.names k → slice_get table.rows.items k ≡ Some row → HasPlace before u number entry name row
 found_is before u table number entry k name row h at names rows =
     let spelled : Some name ≡ Some at.v.name = names ∙ ap (λ ns. slice_get ns k) h.names ∙ at.name_there in

@@ -13,7 +13,7 @@ use wc_model::{Kind, StandardBlock};
 
 /// A variable with its name.
 #[derive(Clone, Copy)]
-struct Named<'a> {
+struct VariableEntry<'a> {
     /// The name, as it is spelled.
     name: &'a [u8],
     /// What the unit's table keeps of it.
@@ -33,7 +33,7 @@ fn count_at_or_before(rows: &[Variable], number: u16) -> usize
 }
 
 /// The variable of a unit that has the place with this number: the last that begins there or before.
-fn variable_with<'a>(table: &UnitTable<'a>, number: u16) -> Option<Named<'a>>
+fn variable_with<'a>(table: &UnitTable<'a>, number: u16) -> Option<VariableEntry<'a>>
     ensures { (before : List ProgramUnit) (u : ProgramUnit) (entry : List Name × Content)
         → IsTableOf before u table.now → first_place u ≤ number
         → slice_get (unit_places before u) (number - first_place u) ≡ Some entry
@@ -43,7 +43,7 @@ fn variable_with<'a>(table: &UnitTable<'a>, number: u16) -> Option<Named<'a>>
     let at = count_at_or_before(&table.rows, number).checked_sub(1)?;
     let name = table.names.at(at)?;
     let row = table.rows.get(at)?;
-    Some(Named { name, row: *row })
+    Some(VariableEntry { name, row: *row })
 }
 
 /// The number of a plain variable's place among those of a variable of a type, if it keeps its value.

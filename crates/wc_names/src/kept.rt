@@ -13,7 +13,7 @@ use crate::field::Field;
 use crate::finished::slots;
 use crate::formal::{Formal, formal_of};
 use crate::frame::Frame;
-use crate::located::Located;
+use crate::located::VariablePlace;
 use crate::lookup::{address, number, row};
 use crate::naming::{entity, place_at};
 use crate::unit_table::{DIRECT_VARIABLES, UnitTable};
@@ -63,7 +63,7 @@ impl<'a> Tables<'a> {
     }
 
     /// The type of a variable of a unit, and where its places begin in the unit's frame.
-    pub fn variable(&self, unit: usize, name: &[u8]) -> Option<Located>
+    pub fn variable(&self, unit: usize, name: &[u8]) -> Option<VariablePlace>
         ensures known { (text : Text) (scope : Scope) → AreTables self.now text
             → IsUnit text unit scope → is_some result ≡ is_some (type_of scope (name_of name.now)) }
         ensures declared { (text : Text) (scope : Scope) → AreTables self.now text
@@ -79,7 +79,7 @@ impl<'a> Tables<'a> {
             → option_map (λ v. v.first) result ≡ first_number scope (name_of name.now) }
     {
         let row = row(&self.units, unit, name)?;
-        Some(Located {
+        Some(VariablePlace {
             declared: row.declared,
             first: row.first,
         })

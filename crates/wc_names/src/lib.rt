@@ -26,7 +26,7 @@ pub use formal::Formal;
 pub use frame::Frame;
 pub use kept::Tables;
 pub use key::Key;
-pub use located::Located;
+pub use located::VariablePlace;
 pub use names::Names;
 pub use unit_table::UnitTable;
 pub use variable::Variable;

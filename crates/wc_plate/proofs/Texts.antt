@@ -6,7 +6,7 @@ use Rattle.toml.specs.Data.{Members}
 use Rattle.toml.specs.Parse.{parse_document}
 use Rattle.wc_plate.specs.TomlTable.{entries_of, table_read}
 use Rattle.wc_model.specs.Instrument.Plates.{PlateData, IsPlate, least_sample, greatest_sample}
-use Rattle.wc_model.specs.Instrument.PlateTable.{Table, Written, Text, Whole, is_between, is_count, is_interval, validated, line_unit, plate_from, unless_broken}
+use Rattle.wc_model.specs.Instrument.PlateTable.{Table, KeyValues, Text, Whole, is_between, is_count, is_interval, validated, line_unit, plate_from, unless_broken}
 use Rattle.wc_laws_instrument.proofs.PlateTable.{accepted_is_plate}
 
 -- a text that is read
@@ -21,18 +21,18 @@ read_none text h = elim (cases_Bool (is_utf8 text)) [
 ]
 
 -- the table in which this is written
-seven_keys : Written → Table
+seven_keys : KeyValues → Table
 seven_keys w =
     (codes "unit", Text w.unit) ∷ (codes "decimals", Whole w.decimals) ∷ (codes "max", Whole w.max) ∷ (codes "e", Whole w.e)
     ∷ (codes "zero_counts", Whole w.zero_counts) ∷ (codes "span_counts", Whole w.span_counts) ∷ (codes "window", Whole w.window) ∷ []
 
 -- what is checked to be a plate keeps a plate's ranges
-pub validated_is_plate : (w : Written) (p : PlateData) → validated w (line_unit w.unit) ≡ Ok p → IsPlate p
+pub validated_is_plate : (w : KeyValues) (p : PlateData) → validated w (line_unit w.unit) ≡ Ok p → IsPlate p
 unfolding seven_keys
 validated_is_plate w p e = accepted_is_plate (Some (seven_keys w)) p e
 
 -- what keeps the rules before that on the counts to the greatest load, and breaks that one
-pub refused_507 : (w : Written) (unit : List ℕ) (decimals e : ℕ) → line_unit w.unit ≡ Some unit → is_between (pos 0) (pos 3) w.decimals ≡ true → w.decimals ≡ pos decimals
+pub refused_507 : (w : KeyValues) (unit : List ℕ) (decimals e : ℕ) → line_unit w.unit ≡ Some unit → is_between (pos 0) (pos 3) w.decimals ≡ true → w.decimals ≡ pos decimals
     → is_interval unit decimals w.e ≡ true → w.e ≡ pos e → is_count w.max (pos e) ≡ true
     → is_between (pos 4 *ℤ int_div w.max w.e) (pos 8000000) w.span_counts ≡ false → validated w (line_unit w.unit) ≡ Err 507
 refused_507 w unit decimals e kept between same interval whole count span =

@@ -1,7 +1,7 @@
 -- Which rule on the values of a plate is broken, and with which values it was checked. That a rule is reported with
 -- these is the profile's own.
 use Rattle.std.specs.Prelude.{◌≡◌, ℕ, ◌*ℤ◌, pos, int_div, false, Some, None, Result, Ok, Err}
-use Rattle.wc_model.specs.Definitions.{PlateData, least_sample, greatest_sample, Written, is_between, is_count, is_interval, validated, line_unit}
+use Rattle.wc_model.specs.Definitions.{PlateData, least_sample, greatest_sample, KeyValues, is_between, is_count, is_interval, validated, line_unit}
 use Rattle.wc_plate.specs.declared.broken.BrokenRule.{BrokenRule}
 use Rattle.wc_plate.specs.declared.broken.BrokenRule.TheVariants.{UnknownKey, MissingKey, WrongKind, Unit, Decimals, Interval, Load, ZeroCounts, SpanCounts, Window}
 
@@ -19,7 +19,7 @@ number_of (SpanCounts n) = 507
 number_of Window = 508
 
 -- what is written breaks this rule on its values
-abbrev pub Breaks : Written → BrokenRule → Type 0
+abbrev pub Breaks : KeyValues → BrokenRule → Type 0
 Breaks w (UnknownKey key missing) = ⊥
 Breaks w (MissingKey key) = ⊥
 Breaks w (WrongKind key) = ⊥
@@ -32,6 +32,6 @@ Breaks w (SpanCounts n) = (int_div w.max w.e ≡ pos n) × (is_between (pos 4 *�
 Breaks w Window = is_between (pos 2) (pos 16) w.window ≡ false
 
 -- the plate of what is written, or the first rule that it breaks
-abbrev pub Validates : Written → Result PlateData BrokenRule → Type 0
+abbrev pub Validates : KeyValues → Result PlateData BrokenRule → Type 0
 Validates w (Ok plate) = validated w (line_unit w.unit) ≡ Ok plate
 Validates w (Err rule) = (validated w (line_unit w.unit) ≡ Err (number_of rule)) × Breaks w rule

@@ -4,12 +4,12 @@ use Rattle.wc_model.specs.Instrument.PlateTable as plate
 use Rattle.std.specs.Prelude.{◌≡◌, ℕ, Bool, true, false, List, Some, None, Result, Ok, Err, codes, IfSome, is_some, if◌then◌else◌, bytes_eq}
 use Rattle.std.specs.List.{list_any}
 use Rattle.wc_model.specs.Instrument.PlateTable.{Table, entry_at, has_no_other_key, number_at, plate_keys, text_at}
-use Rattle.wc_plate.specs.declared.keys.Written.{Written}
+use Rattle.wc_plate.specs.declared.keys.KeyValues.{KeyValues}
 use Rattle.wc_plate.specs.declared.broken.BrokenRule.{BrokenRule}
 use Rattle.wc_plate.specs.declared.broken.BrokenRule.TheVariants.{UnknownKey, MissingKey, WrongKind, Unit, Decimals, Interval, Load, ZeroCounts, SpanCounts, Window}
 
 -- the text and the numbers
-abbrev pub written_seen : Written → plate.Written
+abbrev pub written_seen : KeyValues → plate.KeyValues
 written_seen w = record {
   unit = w.unit.now;
   decimals = w.decimals;
@@ -69,11 +69,11 @@ pub record BlamesNumber (table : Table) (key : List ℕ) (rule : BrokenRule) : T
   pub fault : is_plate_key key ≡ true → bytes_eq key (codes "unit") ≡ false → IsKeyFault table rule
 
 -- the values of the seven keys, or what is wrong with the first of them with which something is
-abbrev pub ReadsEach : Table → Result Written BrokenRule → Type 0
+abbrev pub ReadsEach : Table → Result KeyValues BrokenRule → Type 0
 ReadsEach table (Ok written) = plate.each_key table ≡ Some (written_seen written)
 ReadsEach table (Err rule) = (plate.each_key table ≡ None) × IsKeyFault table rule
 
 -- the same, if there is no other key
-abbrev pub ReadsKeys : Table → Result Written BrokenRule → Type 0
+abbrev pub ReadsKeys : Table → Result KeyValues BrokenRule → Type 0
 ReadsKeys table (Ok written) = plate.written_of table ≡ Some (written_seen written)
 ReadsKeys table (Err rule) = (plate.written_of table ≡ None) × IsKeyFault table rule

@@ -20,7 +20,7 @@ abbrev pub IsVerdictOn : List ℕ → Result PlateData Fault → Type 0
 IsVerdictOn text answer = AgreesWith (plate_of (table_read text)) answer
 
 -- a rule on the keys is broken, or, if they are the seven in their kinds, one on their values
-abbrev pub BreaksIn : Table → Option plate.Written → BrokenRule → Type 0
+abbrev pub BreaksIn : Table → Option plate.KeyValues → BrokenRule → Type 0
 BreaksIn table None rule = IsKeyFault table rule
 BreaksIn table (Some written) rule = Breaks written rule
 

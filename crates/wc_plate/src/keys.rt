@@ -10,7 +10,7 @@ use toml::Table;
 
 /// The values of the seven keys, before they are checked.
 #[derive(Drop)]
-pub(crate) struct Written<'t> {
+pub(crate) struct KeyValues<'t> {
     pub(crate) unit: &'t str,
     pub(crate) decimals: i64,
     pub(crate) max: i64,
@@ -66,10 +66,10 @@ fn number_at(table: &Table, key: &'static str) -> Result<i64, BrokenRule<'static
 }
 
 /// The values of the seven keys, or the first of them that is missing or not of its kind.
-fn each_key(table: &Table) -> Result<Written<'_>, BrokenRule<'static>>
+fn each_key(table: &Table) -> Result<KeyValues<'_>, BrokenRule<'static>>
     ensures { ReadsEach (entries_of (table_view table.now)) result }
 {
-    Ok(Written {
+    Ok(KeyValues {
         unit: text_at(table, "unit")?,
         decimals: number_at(table, "decimals")?,
         max: number_at(table, "max")?,
@@ -91,7 +91,7 @@ fn missing_key(table: &Table) -> Option<&'static str>
 }
 
 /// The values of the seven keys, if each is there in its kind and there is no other.
-pub(crate) fn written_in(table: &Table) -> Result<Written<'_>, BrokenRule<'_>>
+pub(crate) fn written_in(table: &Table) -> Result<KeyValues<'_>, BrokenRule<'_>>
     ensures { ReadsKeys (entries_of (table_view table.now)) result }
 {
     match other_key(table) {

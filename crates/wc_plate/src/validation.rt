@@ -7,7 +7,7 @@ ghost use Rattle.wc_plate.specs.KeyFaults.{written_seen};
 
 use crate::broken::BrokenRule;
 use crate::kept::Plate;
-use crate::keys::Written;
+use crate::keys::KeyValues;
 use wc_model::{GREATEST_COUNTS, LEAST_COUNTS};
 
 /// The line's three bytes for a unit.
@@ -100,7 +100,7 @@ fn count(max: i64, e: u32) -> Option<u32>
 }
 
 /// The plate of what is written, or the first rule that it breaks.
-pub(crate) fn validate_written(written: &Written) -> Result<Plate, BrokenRule<'static>>
+pub(crate) fn validate_written(written: &KeyValues) -> Result<Plate, BrokenRule<'static>>
     ensures { Validates (written_seen written.now) result }
 {
     let unit = line_unit(written.unit).ok_or(BrokenRule::Unit)?;

@@ -26,7 +26,7 @@ pub(crate) struct LimitedReader<'r, R> {
     pub(crate) reader: &'r mut R,
     pub(crate) start: u64,
     place: Place,
-    given: Given,
+    given: ReadBytes,
 }
 
 impl<'r, R: ByteIn> LimitedReader<'r, R> {
@@ -41,7 +41,7 @@ impl<'r, R: ByteIn> LimitedReader<'r, R> {
             reader,
             start,
             place: Place::new(),
-            given: Given::new(),
+            given: ReadBytes::new(),
         }
     }
 
@@ -115,17 +115,17 @@ const CHUNK_WORDS: usize = 128;
 /// What a log's reader gave: the number of bytes, and of the last chunk its length, its last byte and a bit for each CR. It
 /// takes no memory that could be refused.
 #[derive(Drop)]
-struct Given {
+struct ReadBytes {
     total: u64,
     length: usize,
     last: u8,
     returns: [u64; CHUNK_WORDS],
 }
 
-impl Given {
+impl ReadBytes {
     /// Nothing yet.
-    fn new() -> Given {
-        Given {
+    fn new() -> ReadBytes {
+        ReadBytes {
             total: 0,
             length: 0,
             last: 0,

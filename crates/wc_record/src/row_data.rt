@@ -19,7 +19,7 @@ pub(crate) enum RowFault {
 /// The fault of fields that break the rule of this number. It is separate, so that a row that breaks none does not pay for it.
 #[cold]
 #[inline(never)]
-fn refused(rule: u16) -> RowFault
+fn refusal(rule: u16) -> RowFault
     ensures { result ≡ RowFault.Refused rule }
 {
     RowFault::Refused(rule)
@@ -33,7 +33,7 @@ fn sample(text: &[u8]) -> Result<HeadKind, RowFault>
 {
     match counts(text) {
         Some(counts) => Ok(HeadKind::Counts(counts)),
-        None => Err(refused(605)),
+        None => Err(refusal(605)),
     }
 }
 
@@ -46,7 +46,7 @@ fn line_bytes(buffer: &mut Vec<u8>, text: &[u8]) -> Result<HeadKind, RowFault>
 {
     match line_chunk(buffer, text) {
         Ok(true) => Ok(HeadKind::Bytes),
-        Ok(false) => Err(refused(606)),
+        Ok(false) => Err(refusal(606)),
         Err(_) => Err(RowFault::Memory),
     }
 }
@@ -59,7 +59,7 @@ fn inputs(text: &[u8]) -> Result<HeadKind, RowFault>
 {
     match inputs_word(text) {
         Some(inputs) => Ok(HeadKind::Inputs(inputs)),
-        None => Err(refused(606)),
+        None => Err(refusal(606)),
     }
 }
 
@@ -74,10 +74,10 @@ fn row_data(buffer: &mut Vec<u8>, kind: &[u8], text: &[u8]) -> Result<HeadKind, 
         b"L" => line_bytes(buffer, text),
         b"I" => inputs(text),
         b"S" if text.is_empty() => Ok(HeadKind::Scan),
-        b"S" => Err(refused(608)),
+        b"S" => Err(refusal(608)),
         b"P" if text.is_empty() => Ok(HeadKind::Change),
-        b"P" => Err(refused(608)),
-        _ => Err(refused(604)),
+        b"P" => Err(refusal(608)),
+        _ => Err(refusal(604)),
     }
 }
 

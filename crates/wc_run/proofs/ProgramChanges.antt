@@ -7,7 +7,7 @@ use Rattle.wc_model.specs.Definitions.{carried, Store, Text, text_view, PlateDat
 use Rattle.wc_run.specs.{IsChangedTo, changed_program, IsRunning, Running, came_by, IsNext, Represents, program_of, text_of_next, row_at, RunsRow, StopsAtRow, TakesRow}
 use Rattle.wc_run.specs.declared.open_scale.OpenScale.{OpenScale}
 use Rattle.wc_run.specs.declared.fault.RunFault.TheVariants.{Refused}
-use Rattle.wc_run.specs.declared.scale.Scale.{Scale}
+use Rattle.wc_run.specs.declared.log_scale.LogScale.{LogScale}
 use Rattle.wc_run.proofs.RowCalls.{each_row_is_a_call}
 use Rattle.wc_run.proofs.ScaleRows.{not_none, not_some}
 
@@ -42,7 +42,7 @@ changed_logic opened plate past number ms logic text left is represents =
     (subst (λ came. open_scale.Represents opened plate came) (each_row_is_a_call.change past (Some program) number ms) represents, refl)
 
 -- a scale whose program is changed takes the row
-pub takes_change : {S : Type 0} (old : Scale S) (opened : OpenScale S) (loaded : LoadedText) (ms : ℕ) → is_some old.opened.machine ≡ true → old.next ≡ Some loaded →
+pub takes_change : {S : Type 0} (old : LogScale S) (opened : OpenScale S) (loaded : LoadedText) (ms : ℕ) → is_some old.opened.machine ≡ true → old.next ≡ Some loaded →
     IsChangedTo old.opened opened (text_view loaded.source) → TakesRow old (record old { opened = opened; next = None }) ms Change
 takes_change old opened loaded ms there is changed plate None past number represents = absurd (not_none old.opened.machine there represents.opened.program)
 takes_change old opened loaded ms there is changed plate (Some logic) past number represents =
@@ -59,14 +59,14 @@ goes_on logic text left is row rest =
     subst (λ t. change_on (is_some t) row (λ more. log_while more rest.rows rest.refusal) ≡ with_row row (log_for (Some (change_to logic t)) rest)) is refl
 
 -- and a run with whatever logic it represents takes it
-pub runs_change : {S : Type 0} (old : Scale S) (loaded : LoadedText) (number ms : ℕ) → is_some old.opened.machine ≡ true → old.next ≡ Some loaded → RunsRow old (row_at number ms Change)
+pub runs_change : {S : Type 0} (old : LogScale S) (loaded : LoadedText) (number ms : ℕ) → is_some old.opened.machine ≡ true → old.next ≡ Some loaded → RunsRow old (row_at number ms Change)
 runs_change old loaded number ms there is plate None past represents = absurd (not_none old.opened.machine there represents.opened.program)
 runs_change old loaded number ms there is plate (Some logic) past represents = λ rest.
     let before : Logic = logic_following plate logic past in
     goes_on before (text_view loaded.source) before.next (next_text old.next loaded before.next is represents.next) (row_at number ms Change) rest
 
 -- with no program any log takes it
-pub runs_past : {S : Type 0} (old : Scale S) (number ms : ℕ) → is_some old.opened.machine ≡ false → RunsRow old (row_at number ms Change)
+pub runs_past : {S : Type 0} (old : LogScale S) (number ms : ℕ) → is_some old.opened.machine ≡ false → RunsRow old (row_at number ms Change)
 runs_past old number ms none plate None past represents = λ rest. refl
 runs_past old number ms none plate (Some logic) past represents = absurd (not_some old.opened.machine _ none represents.opened.program)
 
@@ -76,7 +76,7 @@ refused_at_row : (left : Option Text) → None ≡ left → (row : LogRow) (rest
 refused_at_row left is row rest =
     subst (λ t. change_on (is_some t) row (λ more. log_while more rest.rows rest.refusal) ≡ refused_at 609 row.number) is refl
 
-pub stops_change : {S : Type 0} (old : Scale S) (number ms : ℕ) → is_some old.opened.machine ≡ true → old.next ≡ None → StopsAtRow old (row_at number ms Change) (Refused 609 number)
+pub stops_change : {S : Type 0} (old : LogScale S) (number ms : ℕ) → is_some old.opened.machine ≡ true → old.next ≡ None → StopsAtRow old (row_at number ms Change) (Refused 609 number)
 stops_change old number ms there is plate None past represents = absurd (not_none old.opened.machine there represents.opened.program)
 stops_change old number ms there is plate (Some logic) past represents = λ rest.
     refused_at_row (logic_following plate logic past).next (subst (λ n. text_of_next n ≡ (logic_following plate logic past).next) is represents.next) (row_at number ms Change) rest

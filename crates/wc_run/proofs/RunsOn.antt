@@ -11,12 +11,12 @@ use Rattle.wc_run.proofs.Prefixes.{prefix_after, prefix_of_more}
 use Rattle.wc_run.specs.{from_log_fault, Does, HasSeenAll, RunsRows, Seeing, Writes, StopsAtRow, IsTaken, logic_after, Plan, onto, text_coming, AppendsFirst, AppendsPrefix, Represents}
 use Rattle.wc_run.specs.declared.fault.RunFault.{RunFault}
 use Rattle.wc_run.specs.declared.fault.RunFault.TheVariants.{Refused, Read, Write, Memory}
-use Rattle.wc_run.specs.declared.scale.Scale.{Scale}
+use Rattle.wc_run.specs.declared.log_scale.LogScale.{LogScale}
 use Rattle.wc_run.proofs.Texts.{length-onto, onto-append, text_at_last, text_of_all, text_so_far}
 
 -- N rows of the log are done, the scale represents them, and the observer has seen them; with
 -- those that a run takes of what is left they are the log. What the plan says of them is written.
-pub record Running {R S O : Type 0} (bytes_left : R → Option (List ℕ)) (rows : Rows R) (scale : Scale S) (has_seen : Seeing O) (observer : O)
+pub record Running {R S O : Type 0} (bytes_left : R → Option (List ℕ)) (rows : Rows R) (scale : LogScale S) (has_seen : Seeing O) (observer : O)
     (plan : Plan) (plate : PlateData) (logic : Option Logic) (log : LogOf) (count : ℕ) (old new : Option (List ℕ)) : Type 0 where
   pub past : Past
   pub left : LogOf
@@ -30,7 +30,7 @@ pub record Running {R S O : Type 0} (bytes_left : R → Option (List ℕ)) (rows
 
 -- a row that is done by the scale, and that the observer is shown
 pub does_row : {S O X : Type 0} (answer : Result X RunFault) (has_seen : Seeing O) (plan : Plan) (plate : PlateData) (logic : Option Logic) (past : Past)
-    (row : LogRow) (scale : Scale S) (observer : O) (old new : Option (List ℕ))
+    (row : LogRow) (scale : LogScale S) (observer : O) (old new : Option (List ℕ))
     → IsTaken (logic_after plate logic past) (logic_after plate logic (row ∷ past)) row → Represents scale plate logic (row ∷ past)
     → OnOk answer (has_seen observer plate logic (row ∷ past)) → Writes (plan.at_row plate logic past row) answer old new
     → Does has_seen plan plate logic past row scale observer answer old new
@@ -42,7 +42,7 @@ does_row (Err Memory) has_seen plan plate logic past row scale observer old new 
 
 -- a row from which the scale is kept
 pub stops_row : {S O : Type 0} (X : Type 0) (fault : RunFault) (has_seen : Seeing O) (plan : Plan) (plate : PlateData) (logic : Option Logic) (past : Past)
-    (row : LogRow) (old scale : Scale S) (observer : O) (taken : Option (List ℕ)) → StopsAtRow old row fault → Represents old plate logic past
+    (row : LogRow) (old scale : LogScale S) (observer : O) (taken : Option (List ℕ)) → StopsAtRow old row fault → Represents old plate logic past
     → has_seen observer plate logic past → Does {X = X} has_seen plan plate logic past row scale observer (Err fault) taken taken
 stops_row X (Refused code place) has_seen plan plate logic past row old scale observer taken stops represents seen = (stops plate logic past represents, seen, Keeps-refl taken)
 stops_row X Read has_seen plan plate logic past row old scale observer taken stops represents seen = absurd stops
@@ -64,7 +64,7 @@ refusal_taken None code place = refl
 refusal_taken (Some logic) code place = refl
 
 -- before the first row
-pub at_first : {R S O : Type 0} (bytes_left : R → Option (List ℕ)) (rows : Rows R) (scale : Scale S) (has_seen : Seeing O) (observer : O)
+pub at_first : {R S O : Type 0} (bytes_left : R → Option (List ℕ)) (rows : Rows R) (scale : LogScale S) (has_seen : Seeing O) (observer : O)
     (plan : Plan) (plate : PlateData) (logic : Option Logic) (log : LogOf) (taken : Option (List ℕ)) → HasLeft bytes_left rows log
     → Represents scale plate logic [] → has_seen observer plate logic [] → Running bytes_left rows scale has_seen observer plan plate logic (log_for logic log) 0 taken taken
 at_first bytes_left rows scale has_seen observer plan plate logic log taken has represents seen = record {
@@ -79,7 +79,7 @@ at_first bytes_left rows scale has_seen observer plan plate logic log taken has 
   written = Appends-nil taken;
 }
 
-module _ {R S O : Type 0} (bytes_left : R → Option (List ℕ)) (rows : Rows R) (scale : Scale S) (has_seen : Seeing O) (observer : O)
+module _ {R S O : Type 0} (bytes_left : R → Option (List ℕ)) (rows : Rows R) (scale : LogScale S) (has_seen : Seeing O) (observer : O)
     (plan : Plan) (plate : PlateData) (logic : Option Logic) (log : LogOf) (count : ℕ) (old mid : Option (List ℕ))
     (r : Running bytes_left rows scale has_seen observer plan plate logic log count old mid) where
   -- a row that is taken precedes the rest that is
@@ -88,7 +88,7 @@ module _ {R S O : Type 0} (bytes_left : R → Option (List ℕ)) (rows : Rows R)
   row_coming row rest is taken = ap (λ l. log_for (logic_after plate logic r.past) l) is ∙ taken rest
 
   -- after one row more
-  pub one_more : (rows' : Rows R) (scale' : Scale S) (observer' : O) (new : Option (List ℕ)) (row : RowHead) {X : Type 0} (x : X)
+  pub one_more : (rows' : Rows R) (scale' : LogScale S) (observer' : O) (new : Option (List ℕ)) (row : RowHead) {X : Type 0} (x : X)
       → Takes (head_view (row_bytes rows')) bytes_left r.left (Ok (Some row)) rows'
       → Does has_seen plan plate logic r.past (head_view (row_bytes rows') row) scale' observer' (Ok x) mid new
       → Running bytes_left rows' scale' has_seen observer' plan plate logic log (count + 1) old new
@@ -171,7 +171,7 @@ module _ {R S O : Type 0} (bytes_left : R → Option (List ℕ)) (rows : Rows R)
       subst (λ t. AppendsPrefix old new t) (sym all) (prefix_after old mid new done (this ++ later) r.written (prefix_of_more mid new this later cut))
 
   -- a row that was refused, or not done to its end
-  pub at_row : (rows' : Rows R) (scale' : Scale S) (observer' : O) (new : Option (List ℕ)) (row : RowHead) (X : Type 0)
+  pub at_row : (rows' : Rows R) (scale' : LogScale S) (observer' : O) (new : Option (List ℕ)) (row : RowHead) (X : Type 0)
       → Takes (head_view (row_bytes rows')) bytes_left r.left (Ok (Some row)) rows' → (raised : RunFault)
       → Does {X = X} has_seen plan plate logic r.past (head_view (row_bytes rows') row) scale' observer' (Err raised) mid new
       → RunsRows has_seen plan plate logic log observer' (Err raised) old new

@@ -13,7 +13,7 @@ use Rattle.wc_run.specs.Representation.{Represents}
 use Rattle.wc_run.specs.declared.fault.RunFault.{RunFault}
 use Rattle.wc_run.specs.declared.fault.RunFault.TheVariants.{Refused, Read, Write, Memory}
 use Rattle.wc_run.specs.declared.row_seen.ScanSeen.{ScanSeen}
-use Rattle.wc_run.specs.declared.scale.Scale.{Scale}
+use Rattle.wc_run.specs.declared.log_scale.LogScale.{LogScale}
 use Rattle.wc_run.specs.Runs.{AppendsFirst, AppendsPrefix, ReportsBy}
 
 -- the row of this number and moment that brings this
@@ -21,24 +21,24 @@ abbrev pub row_at : ℕ → ℕ → RowData → LogRow
 row_at number ms brings = record { number = number; ms = ms; brings = brings }
 
 -- the scale represents what it represented, and one row more
-abbrev pub TakesRow : {S : Type 0} → Scale S → Scale S → ℕ → RowData → Type 0
+abbrev pub TakesRow : {S : Type 0} → LogScale S → LogScale S → ℕ → RowData → Type 0
 TakesRow old new ms brings = (plate : PlateData) (logic : Option Logic) (past : Past) (number : ℕ) → Represents old plate logic past → Represents new plate logic (row_at number ms brings ∷ past)
 
 -- these answers, and this scan, are what the report has of that row
-abbrev pub Gives : {S : Type 0} → Scale S → ℕ → RowData → List ℕ → Option ScanSeen → Type 0
+abbrev pub Gives : {S : Type 0} → LogScale S → ℕ → RowData → List ℕ → Option ScanSeen → Type 0
 Gives old ms brings answers scan = (plate : PlateData) (logic : Option Logic) (past : Past) (number : ℕ) → Represents old plate logic past → lines_of_row plate logic past (row_at number ms brings) ≡ answer_line ms answers ++ lines_of_scan scan
 
 -- and these the items of its scan, if they are looked at
-abbrev pub GivesItems : {S : Type 0} → Scale S → ℕ → RowData → Option ScanSeen → Type 0
+abbrev pub GivesItems : {S : Type 0} → LogScale S → ℕ → RowData → Option ScanSeen → Type 0
 GivesItems old ms brings scan = (plate : PlateData) (logic : Option Logic) (past : Past) (number : ℕ) → Represents old plate logic past → IfSome scan (λ done. AreItems plate logic past (row_at number ms brings) (items_of done))
 
 -- a run with whatever logic the scale represents takes the row
-abbrev pub RunsRow : {S : Type 0} → Scale S → LogRow → Type 0
+abbrev pub RunsRow : {S : Type 0} → LogScale S → LogRow → Type 0
 RunsRow old row = (plate : PlateData) (logic : Option Logic) (past : Past) → Represents old plate logic past → IsTaken (logic_after plate logic past) (logic_after plate logic (row ∷ past)) row
 
 -- a scale is kept from a row by lack of memory, or because a run with whatever logic it represents
 -- refuses the row
-abbrev pub StopsAtRow : {S : Type 0} → Scale S → LogRow → RunFault → Type 0
+abbrev pub StopsAtRow : {S : Type 0} → LogScale S → LogRow → RunFault → Type 0
 StopsAtRow old row (Refused code place) = (plate : PlateData) (logic : Option Logic) (past : Past) → Represents old plate logic past → IsRefusedRow (logic_after plate logic past) row code place
 StopsAtRow old row Read = ⊥
 StopsAtRow old row Write = ⊥
@@ -81,7 +81,7 @@ EndsWhole ended start plate logic log (Err fault) taken = ⊤
 
 -- The row is done, seen and written. Or it is refused, and nothing is written; or the writer failed
 -- at a prefix of what is written of it; or memory was refused, and nothing is written.
-abbrev pub Does : {S O X : Type 0} → Seeing O → Plan → PlateData → Option Logic → Past → LogRow → Scale S → O → Result X RunFault → Option (List ℕ) → Option (List ℕ) → Type 0
+abbrev pub Does : {S O X : Type 0} → Seeing O → Plan → PlateData → Option Logic → Past → LogRow → LogScale S → O → Result X RunFault → Option (List ℕ) → Option (List ℕ) → Type 0
 Does has_seen plan plate logic past row scale observer (Ok x) old new =
     IsTaken (logic_after plate logic past) (logic_after plate logic (row ∷ past)) row
     × Represents scale plate logic (row ∷ past) × has_seen observer plate logic (row ∷ past)

@@ -7,7 +7,7 @@ use Rattle.wc_cost.specs.LoadedTexts.{LoadedText}
 use Rattle.wc_run.specs.Coming.{with_bytes, with_inputs, with_sample}
 use Rattle.wc_run.specs.OpenScales.{Came, Running}
 use Rattle.wc_run.specs.Logics.{logic_after, text_of_next}
-use Rattle.wc_run.specs.declared.scale.Scale.{Scale}
+use Rattle.wc_run.specs.declared.log_scale.LogScale.{LogScale}
 
 -- what rows have brought, with a program or none
 abbrev pub came_by : Past → Option Running → Came
@@ -44,10 +44,10 @@ IsNext next (Some logic) = text_of_next next ≡ logic.next
 
 -- the scale represents a plate, the logic with which it began, and the rows so far: the open scale what they have brought
 -- with the logic after them, and what is loaded the next text
-pub record Represents {S : Type 0} (scale : Scale S) (plate : PlateData) (logic : Option Logic) (past : Past) : Type 0 where
+pub record Represents {S : Type 0} (scale : LogScale S) (plate : PlateData) (logic : Option Logic) (past : Past) : Type 0 where
   pub opened : open_scale.Represents scale.opened plate (came_by past (program_of (logic_after plate logic past)))
   pub next : IsNext scale.next (logic_after plate logic past)
 
 -- no scan so far was after this moment
-abbrev pub IsNotAfter : {S : Type 0} → Scale S → ℕ → Type 0
+abbrev pub IsNotAfter : {S : Type 0} → LogScale S → ℕ → Type 0
 IsNotAfter scale ms = open_scale.IsNotAfter scale.opened ms

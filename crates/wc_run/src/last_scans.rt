@@ -2,11 +2,11 @@ ghost use Rattle.std.specs.Prelude.{◌≡◌, ◌≤◌, [], IfOk, IsOkUnless};
 ghost use Rattle.wc_run.specs.Reports.{HoldsScans, KeepsScan};
 
 use crate::fault::RunFault;
+use crate::log_scale::LogScale;
 use crate::observer::Observer;
 use crate::program::Program;
 use crate::report::{last_text, put_answer, write_text};
 use crate::row_seen::{RowSeen, ScanSeen};
-use crate::scale::Scale;
 use std::alloc::Global;
 use wc_model::ByteOut;
 use wc_record::Recorder;
@@ -84,7 +84,7 @@ impl<S: Store, W: ByteOut> Observer<S, W> for LastScans {
     fn see(
         &mut self,
         seen: &RowSeen<'_>,
-        _scale: &Scale<'_, S>,
+        _scale: &LogScale<'_, S>,
         writer: &mut W,
     ) -> Result<(), RunFault> {
         keep_scan(&mut self.recorder, &seen.scan);

@@ -7,9 +7,9 @@ ghost use Rattle.wc_run.specs.Runs.{IsFaultAt, ReportsRow, ReportsWrites};
 ghost use Rattle.wc_run.specs.Representation.{IsNotAfter, Represents};
 
 use crate::fault::RunFault;
+use crate::log_scale::LogScale;
 use crate::observer::Observer;
 use crate::row_seen::{Answers, RowSeen};
-use crate::scale::Scale;
 use wc_model::{ByteIn, ByteOut};
 use wc_record::{RowHead, Rows};
 use wc_store::Store;
@@ -18,7 +18,7 @@ use wc_store::Store;
 #[inline(always)]
 fn run_row<S: Store, W: ByteOut, O: Observer<S, W>>(
     observer: &mut O,
-    scale: &mut Scale<'_, S>,
+    scale: &mut LogScale<'_, S>,
     answers: &mut Answers,
     row: RowHead,
     bytes: &[u8],
@@ -56,7 +56,7 @@ fn run_row<S: Store, W: ByteOut, O: Observer<S, W>>(
 /// Runs the rows that are left, and returns their number.
 pub(crate) fn run_rows<S: Store, W: ByteOut, O: Observer<S, W>, R: ByteIn>(
     observer: &mut O,
-    scale: &mut Scale<'_, S>,
+    scale: &mut LogScale<'_, S>,
     answers: &mut Answers,
     rows: &mut Rows<'_, R>,
     writer: &mut W,

@@ -6,9 +6,9 @@ ghost use Rattle.wc_run.specs.Runs.{IsNoRefusal, ReportsWrites};
 ghost use Rattle.wc_run.specs.Representation.{Represents};
 
 use crate::fault::RunFault;
+use crate::log_scale::LogScale;
 use crate::program::Program;
 use crate::row_seen::RowSeen;
-use crate::scale::Scale;
 use wc_model::ByteOut;
 use wc_store::Store;
 
@@ -82,7 +82,7 @@ pub trait Observer<S: Store, W: ByteOut> {
     fn see(
         &mut self,
         seen: &RowSeen<'_>,
-        scale: &Scale<'_, S>,
+        scale: &LogScale<'_, S>,
         writer: &mut W,
     ) -> Result<(), RunFault>
         ensures settings { settings self.new ≡ settings self.old }

@@ -5,10 +5,10 @@ ghost use Rattle.wc_run.specs.Observing.{lines_of_seen, line_of_record, lines_of
 ghost use Rattle.wc_run.specs.Runs.{IsNoRefusal, ReportsWrites};
 
 use crate::fault::RunFault;
+use crate::log_scale::LogScale;
 use crate::observer::Observer;
 use crate::program::Program;
 use crate::row_seen::RowSeen;
-use crate::scale::Scale;
 use std::alloc::Global;
 use wc_model::{ByteOut, Steps, write_whole};
 use wc_record::{Record, Recorder};
@@ -143,7 +143,7 @@ impl<S: Store, W: ByteOut> Observer<S, W> for Report {
     fn see(
         &mut self,
         seen: &RowSeen<'_>,
-        _scale: &Scale<'_, S>,
+        _scale: &LogScale<'_, S>,
         writer: &mut W,
     ) -> Result<(), RunFault> {
         self.text.clear();

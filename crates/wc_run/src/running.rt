@@ -8,9 +8,9 @@ ghost use Rattle.wc_run.specs.Representation.{IsNotAfter, Represents};
 
 use crate::fault::RunFault;
 use crate::log_rows::run_rows;
+use crate::log_scale::LogScale;
 use crate::observer::Observer;
 use crate::row_seen::Answers;
-use crate::scale::Scale;
 use std::alloc::Global;
 use wc_model::{ByteIn, ByteOut};
 use wc_record::{RefusedRow, Rows, is_exhausted};
@@ -83,7 +83,7 @@ fn end_rows<S: Store, W: ByteOut, O: Observer<S, W>>(
 
 /// A read fault if the reader has failed since, or as much was read as may be; else out of
 /// memory. A refusal and a write fault stay what they are.
-pub fn classified<R: ByteIn>(fault: RunFault, reader: &R, failures: u64, spent: u64) -> RunFault
+pub fn classify<R: ByteIn>(fault: RunFault, reader: &R, failures: u64, spent: u64) -> RunFault
     ensures classified { IsClassified fault result }
     ensures read { result ≡ RunFault.Read
         → HasCause failures (R.failure_count reader.now) spent (R.spent_count reader.now) }
@@ -120,7 +120,7 @@ pub fn classified<R: ByteIn>(fault: RunFault, reader: &R, failures: u64, spent: 
 pub fn run<S: Store, W: ByteOut, O: Observer<S, W>, R: ByteIn>(
     alloc: Global,
     observer: &mut O,
-    scale: &mut Scale<'_, S>,
+    scale: &mut LogScale<'_, S>,
     reader: &mut R,
     writer: &mut W,
     reported: &mut RefusedRow,
@@ -167,6 +167,6 @@ pub fn run<S: Store, W: ByteOut, O: Observer<S, W>, R: ByteIn>(
     let has_failed = reader.failures() > failures;
     match end_rows(observer, answer, has_failed, writer) {
         Ok(count) => Ok(count),
-        Err(fault) => Err(classified(fault, reader, failures, spent)),
+        Err(fault) => Err(classify(fault, reader, failures, spent)),
     }
 }

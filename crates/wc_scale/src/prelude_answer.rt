@@ -15,7 +15,7 @@ use wc_plate::Plate;
 use wc_run::Prelude;
 
 /// A list of at most sixteen numbers with zeros after it, and their number.
-fn padded(items: &ArrayVec<i32, 16>) -> (u32, [i32; 16])
+fn sixteen_samples(items: &ArrayVec<i32, 16>) -> (u32, [i32; 16])
     ensures items { take result.0 result.1 ≡ items.now.items }
     ensures zeros { drop result.0 result.1 ≡ replicate (16 - result.0) (pos 0) }
 {
@@ -26,7 +26,7 @@ fn padded(items: &ArrayVec<i32, 16>) -> (u32, [i32; 16])
 }
 
 /// The bytes of a request that is open, with zeros after them, and their number.
-fn opened(request: &Option<ArrayVec<u8, 2>>) -> (u32, [u8; 3])
+fn open_request(request: &Option<ArrayVec<u8, 2>>) -> (u32, [u8; 3])
     ensures bytes { take result.0 result.1
         ≡ request_bytes (option_map (λ text. text.items) request.now) }
     ensures zeros { drop result.0 result.1 ≡ replicate (3 - result.0) 0 }
@@ -53,7 +53,7 @@ fn load_of(load: Option<i32>) -> (u32, i32)
 }
 
 /// A prelude in plain numbers, of a plate with this window.
-fn reported(prelude: &Prelude, window: u32) -> PreludeAnswer
+fn prelude_answer(prelude: &Prelude, window: u32) -> PreludeAnswer
     ensures status { result.status ≡ 0 }
     ensures window { result.window ≡ window }
     ensures state { IsReportedState result (state_view prelude.now) }
@@ -61,8 +61,8 @@ fn reported(prelude: &Prelude, window: u32) -> PreludeAnswer
 {
     let (has_zero, zero) = load_of(prelude.zero);
     let (has_tare, tare) = load_of(prelude.tare);
-    let (count, samples) = padded(&prelude.samples);
-    let (length, request) = opened(&prelude.request);
+    let (count, samples) = sixteen_samples(&prelude.samples);
+    let (length, request) = open_request(&prelude.request);
     PreludeAnswer {
         status: DONE,
         window,
@@ -157,7 +157,7 @@ impl Scale {
         match &self.opened {
             Some(opened) => {
                 let window = opened.indicator().plate().window() as u32;
-                reported(&opened.prelude(), window)
+                prelude_answer(&opened.prelude(), window)
             }
             None => PreludeAnswer {
                 status: CLOSED,

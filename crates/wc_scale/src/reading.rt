@@ -48,7 +48,7 @@ fn no_scan(status: u32) -> Scanned
 }
 
 /// A scan that is done.
-fn scanned(scan: &Record) -> Scanned
+fn scan_answer(scan: &Record) -> Scanned
     ensures status { result.status ≡ 0 }
     ensures steps { result.steps ≡ scan.now.steps }
     ensures bits { result.bits ≡ scan.now.outputs.bits }
@@ -159,7 +159,7 @@ impl Scale {
             return no_scan(MOMENT_BACK);
         }
         match opened.scan(ms) {
-            Some(record) => scanned(&record),
+            Some(record) => scan_answer(&record),
             None => no_scan(NO_PROGRAM),
         }
     }

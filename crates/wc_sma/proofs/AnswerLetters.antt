@@ -27,7 +27,7 @@ scale_status p history = go (has_sample history) refl (is_over p history) refl (
     go true h false o false u false z = (Normal, refl, (refl, (λ i. h i && not (o i || u i)), z))
 
 -- the status of an answer
-status_of : (p : PlateData) (history : History) (asked : answers.Asked) →
+status_of : (p : PlateData) (history : History) (asked : answers.RequestOutcome) →
     (s : Status) × (answers.status_byte p history asked ≡ status_letter s ∷ []) × IsStatus p history asked s
 status_of p history answers.Plain = scale_status p history
 status_of p history answers.ZeroRefused = (ZeroRefused, refl, refl)
@@ -103,7 +103,7 @@ four = Sample (pos 60000) ∷ Sample (pos 60000) ∷ Sample (pos 60000) ∷ Samp
 
 -- an answer with each status
 each_status : (s : Status) →
-    (p : PlateData) × (history : History) × (asked : answers.Asked) × IsPlate p × (answers.status_byte p history asked ≡ status_letter s ∷ [])
+    (p : PlateData) × (history : History) × (asked : answers.RequestOutcome) × IsPlate p × (answers.status_byte p history asked ≡ status_letter s ∷ [])
 each_status Normal = (plate_in Kilogram, four, answers.Plain, is_plate Kilogram, refl)
 each_status CentreOfZero = (plate_in Kilogram, Sample (pos 10000) ∷ [], answers.Plain, is_plate Kilogram, refl)
 each_status Over = (plate_in Kilogram, Sample (pos 8388607) ∷ [], answers.Plain, is_plate Kilogram, refl)

@@ -5,14 +5,14 @@ use Rattle.wc_model.specs.Definitions.{PlateData, History, carriage_return, open
 use Rattle.wc_model.specs.Instrument.Answers as line_answers
 use Rattle.wc_laws_instrument.proofs.Requests.{requests_in_byte, open_request_after}
 use Rattle.wc_indicator.specs.Kept.{IndicatorState, RepresentsHistory}
-use Rattle.wc_sma.specs.declared.command.Seen.{Seen}
+use Rattle.wc_sma.specs.declared.command.RequestStart.{RequestStart}
 use Rattle.wc_sma.specs.declared.command.Command.{Command}
 use Rattle.wc_sma.specs.declared.line.Line.{Line}
 use Rattle.wc_sma.specs.Seen.{seen_in, command_view, completes}
 use Rattle.wc_sma.specs.Feeding.{RepresentsBytes, Feeds, Fails}
 
 -- what is seen is seen of a text
-seen_text : (o : Option (List ℕ)) (seen : Seen) → Some seen ≡ option_map seen_in o → (text : List ℕ) × (o ≡ Some text) × (seen ≡ seen_in text)
+seen_text : (o : Option (List ℕ)) (seen : RequestStart) → Some seen ≡ option_map seen_in o → (text : List ℕ) × (o ≡ Some text) × (seen ≡ seen_in text)
 seen_text None seen e = absurd (cc)
 seen_text (Some text) seen e = (text, refl, cc)
 
@@ -35,7 +35,7 @@ completed_after : (before : List ℕ) (byte : ℕ) (o : Option (List ℕ)) → c
 completed_after before byte o e = requests_in_byte before byte ∙ completed_list byte (open_request before) ∙ ap option_to_list e
 
 -- the command of the request that a byte completes
-pub command_after : (before : List ℕ) (byte : ℕ) (seen : Seen) (command : Command) → Some seen ≡ option_map seen_in (completes byte (open_request before)) →
+pub command_after : (before : List ℕ) (byte : ℕ) (seen : RequestStart) (command : Command) → Some seen ≡ option_map seen_in (completes byte (open_request before)) →
     ((text : List ℕ) → seen ≡ seen_in text → command_view command ≡ line_answers.command_of text) →
     command_view command ∷ [] ≡ map line_answers.command_of (requests_in before (byte ∷ []))
 command_after before byte seen command was asks =
@@ -70,7 +70,7 @@ module _ (line line' : Line) (indicator indicator' : IndicatorState) (taken take
       none : (before : List ℕ) → RepresentsBytes line before → requests_in before (byte ∷ []) ≡ []
       none before s = completed_after before byte None (unseen_text (completes byte (open_request before)) (was (open_request before) s.0))
 
-  module _ (seen : Seen) (command : Command)
+  module _ (seen : RequestStart) (command : Command)
       (was : (text : Option (List ℕ)) → line.started ≡ option_map seen_in text → Some seen ≡ option_map seen_in (completes byte text))
       (asks : (text : List ℕ) → seen ≡ seen_in text → command_view command ≡ line_answers.command_of text)
       (acted : (p : PlateData) (history : History) → RepresentsHistory indicator p history → RepresentsHistory indicator' p (line_answers.after_command (command_view command) history)) where

@@ -37,7 +37,7 @@ unit_letters Kilogram = kilograms
 unit_letters Tonne = tonnes
 
 -- what a status says: that the command was refused, or else how the scale is
-abbrev pub IsStatus : PlateData → History → answers.Asked → Status → Type 0
+abbrev pub IsStatus : PlateData → History → answers.RequestOutcome → Status → Type 0
 IsStatus p history asked Normal = (asked ≡ answers.Plain) × (is_valid p history ≡ true) × (is_centre_of_zero p history ≡ false)
 IsStatus p history asked CentreOfZero = (asked ≡ answers.Plain) × (is_valid p history ≡ true) × (is_centre_of_zero p history ≡ true)
 IsStatus p history asked Over = (asked ≡ answers.Plain) × (is_over p history ≡ true)
@@ -56,14 +56,14 @@ IsKind p history mode Tare = mode ≡ answers.Tare
 --     status, kind, motion, unit     in each answer each field has the letter of what is so
 --     each_status, ..                each letter is that of an answer, for some plate and history
 pub record LettersAreAnswers : Type 0 where
-  pub status : (p : PlateData) (history : History) (asked : answers.Asked) →
+  pub status : (p : PlateData) (history : History) (asked : answers.RequestOutcome) →
       (s : Status) × (answers.status_byte p history asked ≡ status_letter s ∷ []) × IsStatus p history asked s
   pub kind : (p : PlateData) (history : History) (mode : answers.Mode) →
       (k : WeightKind) × (answers.mode_byte p history mode ≡ kind_letter k ∷ []) × IsKind p history mode k
   pub motion : (p : PlateData) (history : History) → answers.motion_byte p history ≡ motion_letter (is_stable p history) ∷ []
   pub unit : (p : PlateData) → IsPlate p → (u : MassUnit) × (p.unit ≡ unit_letters u)
   pub each_status : (s : Status) →
-      (p : PlateData) × (history : History) × (asked : answers.Asked) × IsPlate p × (answers.status_byte p history asked ≡ status_letter s ∷ [])
+      (p : PlateData) × (history : History) × (asked : answers.RequestOutcome) × IsPlate p × (answers.status_byte p history asked ≡ status_letter s ∷ [])
   pub each_kind : (k : WeightKind) →
       (p : PlateData) × (history : History) × (mode : answers.Mode) × IsPlate p × (answers.mode_byte p history mode ≡ kind_letter k ∷ [])
   pub each_motion : (stable : Bool) →

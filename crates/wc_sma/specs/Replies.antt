@@ -4,8 +4,8 @@ use Rattle.std.specs.Prelude.{ℕ, List, [], ◌∷◌, ◌++◌, codes}
 use Rattle.wc_model.specs.Definitions.{PlateData, History}
 use Rattle.wc_sma.specs.declared.answers.Mode.{Mode}
 use Rattle.wc_sma.specs.declared.answers.Mode.TheVariants.{Shown, Tare}
-use Rattle.wc_sma.specs.declared.answers.Asked.{Asked}
-use Rattle.wc_sma.specs.declared.answers.Asked.TheVariants.{Plain, ZeroRefused, TareRefused}
+use Rattle.wc_sma.specs.declared.answers.RequestOutcome.{RequestOutcome}
+use Rattle.wc_sma.specs.declared.answers.RequestOutcome.TheVariants.{Plain, ZeroRefused, TareRefused}
 use Rattle.wc_sma.specs.declared.acting.Reply.{Reply}
 use Rattle.wc_sma.specs.declared.acting.Reply.TheVariants.{Weight, Unknown}
 
@@ -15,7 +15,7 @@ mode_view Shown = answers.Shown
 mode_view Tare = answers.Tare
 
 -- what the answer is to
-abbrev pub asked_view : Asked → answers.Asked
+abbrev pub asked_view : RequestOutcome → answers.RequestOutcome
 asked_view Plain = answers.Plain
 asked_view ZeroRefused = answers.ZeroRefused
 asked_view TareRefused = answers.TareRefused

@@ -2,13 +2,13 @@
 use Rattle.std.specs.Prelude.{ℕ, List, [], ◌∷◌, ◌==◌, Option, None, if◌then◌else◌}
 use Rattle.wc_model.specs.Instrument.Requests.{carriage_return}
 use Rattle.wc_model.specs.Instrument.Answers as answers
-use Rattle.wc_sma.specs.declared.command.Seen.{Seen}
-use Rattle.wc_sma.specs.declared.command.Seen.TheVariants.{Nothing, One, More}
+use Rattle.wc_sma.specs.declared.command.RequestStart.{RequestStart}
+use Rattle.wc_sma.specs.declared.command.RequestStart.TheVariants.{Nothing, One, More}
 use Rattle.wc_sma.specs.declared.command.Command.{Command}
 use Rattle.wc_sma.specs.declared.command.Command.TheVariants.{AskWeight, Zero, TakeTare, AskTare, Clear, Unknown}
 
 -- no byte, one, or more
-abbrev pub seen_in : List ℕ → Seen
+abbrev pub seen_in : List ℕ → RequestStart
 seen_in [] = Nothing
 seen_in (byte ∷ []) = One byte
 seen_in (byte ∷ next ∷ rest) = More
@@ -23,7 +23,7 @@ command_view Clear = answers.Clear
 command_view Unknown = answers.Unknown
 
 -- the command of a text of which this is known
-abbrev pub asked_by : Seen → answers.Command
+abbrev pub asked_by : RequestStart → answers.Command
 asked_by Nothing = answers.Unknown
 asked_by (One byte) = answers.command_of (byte ∷ [])
 asked_by More = answers.Unknown

@@ -6,7 +6,7 @@ ghost use Rattle.wc_sma.specs.Replies.{asked_view, reply_bytes};
 ghost use Rattle.wc_sma.specs.Feeding.{Adds};
 ghost use Rattle.wc_sma.specs.Seen.{command_view};
 
-use crate::answers::{Asked, Mode};
+use crate::answers::{Mode, RequestOutcome};
 use crate::command::Command;
 use wc_indicator::Indicator;
 
@@ -14,29 +14,29 @@ use wc_indicator::Indicator;
 #[derive(Clone, Copy)]
 pub(crate) enum Reply {
     /// The status and this weight, and what it is an answer to.
-    Weight(Mode, Asked),
+    Weight(Mode, RequestOutcome),
     Unknown,
 }
 
 /// Sets zero, and says what the answer is to.
-fn set_zero(indicator: &mut Indicator) -> Asked
+fn set_zero(indicator: &mut Indicator) -> RequestOutcome
     ensures represents { Adds (λ history. SetZero ∷ history) indicator.old indicator.new }
     ensures asked { Reports answers.asked_zero indicator.old (asked_view result) }
 {
     match indicator.set_zero() {
-        Ok(()) => Asked::Plain,
-        Err(_) => Asked::ZeroRefused,
+        Ok(()) => RequestOutcome::Plain,
+        Err(_) => RequestOutcome::ZeroRefused,
     }
 }
 
 /// Takes a tare, and says what the answer is to.
-fn take_tare(indicator: &mut Indicator) -> Asked
+fn take_tare(indicator: &mut Indicator) -> RequestOutcome
     ensures represents { Adds (λ history. SetTare ∷ history) indicator.old indicator.new }
     ensures asked { Reports answers.asked_tare indicator.old (asked_view result) }
 {
     match indicator.set_tare() {
-        Ok(()) => Asked::Plain,
-        Err(_) => Asked::TareRefused,
+        Ok(()) => RequestOutcome::Plain,
+        Err(_) => RequestOutcome::TareRefused,
     }
 }
 
@@ -49,13 +49,13 @@ pub(crate) fn act(command: Command, indicator: &mut Indicator) -> Reply
         ≡ answers.answer_to p (command_view command) history }
 {
     match command {
-        Command::AskWeight => Reply::Weight(Mode::Shown, Asked::Plain),
+        Command::AskWeight => Reply::Weight(Mode::Shown, RequestOutcome::Plain),
         Command::Zero => Reply::Weight(Mode::Shown, set_zero(indicator)),
         Command::TakeTare => Reply::Weight(Mode::Shown, take_tare(indicator)),
-        Command::AskTare => Reply::Weight(Mode::Tare, Asked::Plain),
+        Command::AskTare => Reply::Weight(Mode::Tare, RequestOutcome::Plain),
         Command::Clear => {
             indicator.clear_tare();
-            Reply::Weight(Mode::Shown, Asked::Plain)
+            Reply::Weight(Mode::Shown, RequestOutcome::Plain)
         }
         Command::Unknown => Reply::Unknown,
     }

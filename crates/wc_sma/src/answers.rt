@@ -15,7 +15,7 @@ pub enum Mode {
 
 /// What an answer is to.
 #[derive(Clone, Copy, PartialEq, Eq)]
-pub enum Asked {
+pub enum RequestOutcome {
     /// A question, or a command that was accepted.
     Plain,
     ZeroRefused,
@@ -40,14 +40,14 @@ fn scale_status(indicator: &Indicator) -> u8
 }
 
 /// The status of an answer.
-fn status_byte(indicator: &Indicator, asked: Asked) -> u8
+fn status_byte(indicator: &Indicator, asked: RequestOutcome) -> u8
     ensures { Reports (λ p history. answers.status_byte p history (asked_view asked)) indicator.now
         (result ∷ []) }
 {
     match asked {
-        Asked::Plain => scale_status(indicator),
-        Asked::ZeroRefused => b'E',
-        Asked::TareRefused => b'T',
+        RequestOutcome::Plain => scale_status(indicator),
+        RequestOutcome::ZeroRefused => b'E',
+        RequestOutcome::TareRefused => b'T',
     }
 }
 
@@ -84,7 +84,7 @@ fn weight_asked(indicator: &Indicator, mode: Mode) -> Option<i32>
 
 /// The twenty bytes of an answer: line feed, status, `1`, mode, motion, space, ten of weight, three of unit, carriage
 /// return.
-pub fn answer(indicator: &Indicator, mode: Mode, asked: Asked) -> [u8; 20]
+pub fn answer(indicator: &Indicator, mode: Mode, asked: RequestOutcome) -> [u8; 20]
     ensures { Reports
         (λ p history. answers.answer p history (mode_view mode) (asked_view asked))
         indicator.now result }

@@ -5,7 +5,7 @@ ghost use Rattle.wc_sma.specs.Seen.{seen_in, asked_by, command_view};
 
 /// What the line knows of a request's text so far.
 #[derive(Clone, Copy, PartialEq, Eq)]
-pub(crate) enum Seen {
+pub(crate) enum RequestStart {
     Nothing,
     /// This byte alone.
     One(u8),
@@ -29,22 +29,22 @@ pub enum Command {
 }
 
 /// What is known of the text with one byte more.
-fn with_byte(seen: Seen, byte: u8) -> Seen
+fn with_byte(seen: RequestStart, byte: u8) -> RequestStart
     ensures { (text : List ℕ) → seen ≡ seen_in text → result ≡ seen_in (text ++ (byte ∷ [])) }
 {
     match seen {
-        Seen::Nothing => Seen::One(byte),
-        Seen::One(_) | Seen::More => Seen::More,
+        RequestStart::Nothing => RequestStart::One(byte),
+        RequestStart::One(_) | RequestStart::More => RequestStart::More,
     }
 }
 
 /// What one more byte makes of the request that is open.
-pub(crate) fn after_byte(started: Option<Seen>, byte: u8) -> Option<Seen>
+pub(crate) fn after_byte(started: Option<RequestStart>, byte: u8) -> Option<RequestStart>
     ensures { (text : Option (List ℕ)) → started ≡ option_map seen_in text
         → result ≡ option_map seen_in (opened_by byte text) }
 {
     match byte {
-        b'\n' => Some(Seen::Nothing),
+        b'\n' => Some(RequestStart::Nothing),
         b'\r' | 0x1b => None,
         _ => Some(with_byte(started?, byte)),
     }
@@ -52,7 +52,7 @@ pub(crate) fn after_byte(started: Option<Seen>, byte: u8) -> Option<Seen>
 
 /// The command that a letter represents.
 fn command_of_letter(letter: u8) -> Command
-    ensures { command_view result ≡ asked_by (Seen.One letter) }
+    ensures { command_view result ≡ asked_by (RequestStart.One letter) }
 {
     match letter {
         b'W' => Command::AskWeight,
@@ -65,12 +65,12 @@ fn command_of_letter(letter: u8) -> Command
 }
 
 /// The command that a request's text spells.
-pub(crate) fn command_of(seen: Seen) -> Command
+pub(crate) fn command_of(seen: RequestStart) -> Command
     ensures { (text : List ℕ) → seen ≡ seen_in text → command_view result
         ≡ answers.command_of text }
 {
     match seen {
-        Seen::One(letter) => command_of_letter(letter),
-        Seen::Nothing | Seen::More => Command::Unknown,
+        RequestStart::One(letter) => command_of_letter(letter),
+        RequestStart::Nothing | RequestStart::More => Command::Unknown,
     }
 }

@@ -10,7 +10,7 @@ mod line;
 mod requests;
 mod weight;
 
-pub use answers::{Asked, Mode, answer};
+pub use answers::{Mode, RequestOutcome, answer};
 pub use command::Command;
 pub use letters::{MassUnit, Status, WeightKind, letters_are_those_of_answers, stable_of_letter};
 pub use line::Line;

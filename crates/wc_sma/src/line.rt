@@ -9,7 +9,7 @@ ghost use Rattle.wc_sma.specs.Feeding.{RepresentsBytes, HasFailed, Adds, Feeds, 
 
 use crate::acting::{Reply, act};
 use crate::answers::answer;
-use crate::command::{Command, Seen, after_byte, command_of};
+use crate::command::{Command, RequestStart, after_byte, command_of};
 use arrayvec::ArrayVec;
 use wc_indicator::Indicator;
 use wc_model::{ByteOut, WriteFault, write_whole};
@@ -17,12 +17,12 @@ use wc_model::{ByteOut, WriteFault, write_whole};
 /// The line: what it knows of the request that is open, and whether it has failed.
 #[derive(Drop)]
 pub struct Line {
-    pub(crate) started: Option<Seen>,
+    pub(crate) started: Option<RequestStart>,
     failed: bool,
 }
 
 /// The request that a byte completes.
-pub(crate) fn completed(started: Option<Seen>, byte: u8) -> Option<Seen>
+pub(crate) fn completed_request(started: Option<RequestStart>, byte: u8) -> Option<RequestStart>
     ensures { (text : Option (List ℕ)) → started ≡ option_map seen_in text
         → result ≡ option_map seen_in (completes byte text) }
 {
@@ -57,14 +57,14 @@ fn serve<W: ByteOut>(
 
 /// The text of which this is known, as far as it matters: two question marks represent any of two
 /// bytes or more.
-fn kept_text(seen: Seen) -> ArrayVec<u8, 2>
+fn kept_text(seen: RequestStart) -> ArrayVec<u8, 2>
     ensures { (text : List ℕ) → seen ≡ seen_in text → result.items ≡ text_kept text }
 {
     let mut text = ArrayVec::new();
     match seen {
-        Seen::Nothing => {}
-        Seen::One(byte) => text.push(byte),
-        Seen::More => {
+        RequestStart::Nothing => {}
+        RequestStart::One(byte) => text.push(byte),
+        RequestStart::More => {
             text.push(b'?');
             text.push(b'?');
         }
@@ -103,7 +103,7 @@ impl Line {
         ensures device { IfErr result
             (λ e. HasFailedSince (W.failure_count writer.old) (W.failure_count writer.new)) }
     {
-        let request = completed(self.started, byte);
+        let request = completed_request(self.started, byte);
         self.started = after_byte(self.started, byte);
         match request {
             Some(seen) => match serve(command_of(seen), indicator, writer) {

@@ -3,13 +3,13 @@ ghost use Rattle.wc_model.specs.Definitions.{command_of, requests_in};
 ghost use Rattle.wc_sma.specs.Seen.{command_view};
 ghost use Rattle.wc_sma.specs.Feeding.{HasRead};
 
-use crate::command::{Command, Seen, after_byte, command_of};
-use crate::line::completed;
+use crate::command::{Command, RequestStart, after_byte, command_of};
+use crate::line::completed_request;
 
 /// Follows the bytes of a line and acts on nothing: it says which requests they complete, as the line does that is fed them.
 #[derive(Clone, Copy)]
 pub struct RequestReader {
-    started: Option<Seen>,
+    started: Option<RequestStart>,
 }
 
 impl RequestReader {
@@ -28,7 +28,7 @@ impl RequestReader {
             → option_to_list (option_map command_view result)
             ≡ map command_of (requests_in before (byte ∷ [])) }
     {
-        let request = completed(self.started, byte);
+        let request = completed_request(self.started, byte);
         self.started = after_byte(self.started, byte);
         Some(command_of(request?))
     }

@@ -6,12 +6,12 @@ use wc_devices::{KeepingReader, OutputBuffer, Retry};
 
 /// A reader and writer that is interrupted three times, and then fails.
 #[derive(Drop)]
-struct Interrupted {
+struct InterruptedDevice {
     left: u32,
 }
 
 /// The error of the next call.
-fn next_error(calls: &mut Interrupted) -> io::Error {
+fn next_error(calls: &mut InterruptedDevice) -> io::Error {
     if calls.left == 0 {
         return io::Error::from(io::ErrorKind::BrokenPipe);
     }
@@ -19,13 +19,13 @@ fn next_error(calls: &mut Interrupted) -> io::Error {
     io::Error::from(io::ErrorKind::Interrupted)
 }
 
-impl Read for Interrupted {
+impl Read for InterruptedDevice {
     fn read(&mut self, _buffer: &mut [u8]) -> io::Result<usize> {
         Err(next_error(self))
     }
 }
 
-impl Write for Interrupted {
+impl Write for InterruptedDevice {
     fn write(&mut self, _chunk: &[u8]) -> io::Result<usize> {
         Err(next_error(self))
     }
@@ -44,7 +44,7 @@ fn is_broken(cause: Option<io::Error>) -> bool {
 }
 
 /// The number of bytes a call moved; nothing if it failed.
-fn moved(answer: io::Result<usize>) -> Option<usize> {
+fn count_of(answer: io::Result<usize>) -> Option<usize> {
     match answer {
         Ok(count) => Some(count),
         Err(_) => None,
@@ -54,7 +54,7 @@ fn moved(answer: io::Result<usize>) -> Option<usize> {
 /// Whether the next read into two bytes gives this many.
 fn reads(reader: &mut KeepingReader<&[u8]>, count: usize) -> bool {
     let mut buffer = [0_u8; 2];
-    moved(reader.read(&mut buffer)) == Some(count)
+    count_of(reader.read(&mut buffer)) == Some(count)
 }
 
 /// Whether a reader of three bytes keeps what it reads.
@@ -76,46 +76,46 @@ fn a_reader_keeps_what_it_reads(rt: HostRuntime) {
 }
 
 /// Whether a read fails.
-fn fails_to_read(calls: &mut Retry<Interrupted>) -> bool {
+fn fails_to_read(calls: &mut Retry<InterruptedDevice>) -> bool {
     let mut buffer = [0_u8; 2];
-    moved(calls.read(&mut buffer)).is_none()
+    count_of(calls.read(&mut buffer)).is_none()
 }
 
 /// Whether a read and a write fail, and the cause is then that of the last call.
-fn are_tried_again(calls: &mut Retry<Interrupted>) -> bool {
+fn are_tried_again(calls: &mut Retry<InterruptedDevice>) -> bool {
     let before = is_broken(calls.cause());
     let read = fails_to_read(calls) && is_broken(calls.cause());
-    let written = moved(calls.write(b"abc")).is_none() && is_broken(calls.cause());
+    let written = count_of(calls.write(b"abc")).is_none() && is_broken(calls.cause());
     !before && read && written
 }
 
 #[test]
 fn calls_are_tried_again(rt: HostRuntime) {
-    let mut calls = Retry::new(Interrupted { left: 3 });
+    let mut calls = Retry::new(InterruptedDevice { left: 3 });
     assert!(rt; are_tried_again(&mut calls));
 }
 
 /// Whether the next read fails, by the error of the last call or by another.
-fn fails_by_the_last(calls: &mut Retry<Interrupted>, last: bool) -> bool {
+fn fails_by_the_last(calls: &mut Retry<InterruptedDevice>, last: bool) -> bool {
     fails_to_read(calls) && is_broken(calls.cause()) == last
 }
 
 /// Whether a flush fails, and the cause is then that of the last call.
-fn fails_to_flush(calls: &mut Retry<Interrupted>) -> bool {
+fn fails_to_flush(calls: &mut Retry<InterruptedDevice>) -> bool {
     calls.flush().is_err() && is_broken(calls.cause())
 }
 
 #[test]
 fn an_interrupted_flush_is_tried_again(rt: HostRuntime) {
-    let mut calls = Retry::new(Interrupted { left: 3 });
+    let mut calls = Retry::new(InterruptedDevice { left: 3 });
     assert!(rt; fails_to_flush(&mut calls));
 }
 
 #[test]
 fn interruptions_have_a_bound(rt: HostRuntime) {
-    let mut calls = Retry::new(Interrupted { left: 16 });
+    let mut calls = Retry::new(InterruptedDevice { left: 16 });
     assert!(rt; fails_by_the_last(&mut calls, true));
-    let mut more_calls = Retry::new(Interrupted { left: 17 });
+    let mut more_calls = Retry::new(InterruptedDevice { left: 17 });
     assert!(rt; fails_by_the_last(&mut more_calls, false));
     assert!(rt; fails_by_the_last(&mut more_calls, true));
 }
@@ -127,7 +127,7 @@ fn has_taken(writer: &OutputBuffer<Vec<u8>>, wanted: &[u8]) -> bool {
 
 /// Whether a writer with a buffer of four bytes takes these, and the writer inside has then taken those.
 fn takes(writer: &mut OutputBuffer<Vec<u8>>, bytes: &[u8], inside: &[u8]) -> bool {
-    moved(writer.write(bytes)) == Some(bytes.len()) && has_taken(writer, inside)
+    count_of(writer.write(bytes)) == Some(bytes.len()) && has_taken(writer, inside)
 }
 
 /// Whether it hands all on when it is flushed.
@@ -152,15 +152,15 @@ fn gathers(alloc: Global) -> bool {
 }
 
 /// Whether a writer that could not hand its bytes on takes no more.
-fn takes_no_more(writer: &mut OutputBuffer<Interrupted>) -> bool {
-    let taken = moved(writer.write(b"abc")) == Some(3);
+fn takes_no_more(writer: &mut OutputBuffer<InterruptedDevice>) -> bool {
+    let taken = count_of(writer.write(b"abc")) == Some(3);
     let failed = writer.flush().is_err() && writer.empty().is_err();
-    taken && failed && moved(writer.write(b"d")).is_none()
+    taken && failed && count_of(writer.write(b"d")).is_none()
 }
 
 /// Whether there is such a writer.
 fn stays_failed(alloc: Global) -> bool {
-    match OutputBuffer::new(alloc, Interrupted { left: 0 }, 4) {
+    match OutputBuffer::new(alloc, InterruptedDevice { left: 0 }, 4) {
         Ok(mut writer) => takes_no_more(&mut writer),
         Err(_) => false,
     }
@@ -178,13 +178,13 @@ fn nothing_is_taken_after_a_failure(rt: HostRuntime) {
 
 /// Whether a write is passed on.
 fn is_write_passed_on(writer: &mut Retry<Vec<u8>>) -> bool {
-    moved(writer.write(b"abc")) == Some(3) && writer.cause().is_none()
+    count_of(writer.write(b"abc")) == Some(3) && writer.cause().is_none()
 }
 
 /// Whether a read is passed on.
 fn is_read_passed_on(reader: &mut Retry<&[u8]>) -> bool {
     let mut buffer = [0_u8; 2];
-    moved(reader.read(&mut buffer)) == Some(2) && buffer == *b"ab"
+    count_of(reader.read(&mut buffer)) == Some(2) && buffer == *b"ab"
 }
 
 #[test]

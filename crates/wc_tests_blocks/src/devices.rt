@@ -6,15 +6,15 @@ use wc_model::{ByteIn, ByteOut, Device, Fault, WriteFault, is_word, wrap32};
 
 /// A reader and writer whose calls all fail.
 #[derive(Drop)]
-struct Broken;
+struct BrokenDevice;
 
-impl Read for Broken {
+impl Read for BrokenDevice {
     fn read(&mut self, _buffer: &mut [u8]) -> io::Result<usize> {
         Err(io::Error::from(io::ErrorKind::BrokenPipe))
     }
 }
 
-impl Write for Broken {
+impl Write for BrokenDevice {
     fn write(&mut self, _chunk: &[u8]) -> io::Result<usize> {
         Err(io::Error::from(io::ErrorKind::BrokenPipe))
     }
@@ -39,7 +39,7 @@ impl Write for Full {
 }
 
 /// The number of bytes a read gives; nothing if it fails.
-fn given<R: ByteIn>(reader: &mut R, buffer: &mut [u8]) -> Option<usize> {
+fn count_read<R: ByteIn>(reader: &mut R, buffer: &mut [u8]) -> Option<usize> {
     match reader.read(buffer) {
         Ok(count) => Some(count),
         Err(_) => None,
@@ -47,7 +47,7 @@ fn given<R: ByteIn>(reader: &mut R, buffer: &mut [u8]) -> Option<usize> {
 }
 
 /// The number of bytes of a chunk a write takes; nothing if it fails.
-fn taken<W: ByteOut>(writer: &mut W, chunk: &[u8]) -> Option<usize> {
+fn count_written<W: ByteOut>(writer: &mut W, chunk: &[u8]) -> Option<usize> {
     match writer.write(chunk) {
         Ok(count) => Some(count),
         Err(_) => None,
@@ -59,34 +59,36 @@ fn are_read_and_counted() -> bool {
     let text: &[u8] = b"abc";
     let mut device = Device::new(text);
     let mut buffer = [0; 2];
-    let first = given(&mut device, &mut buffer) == Some(2) && buffer == [97, 98];
-    let rest = given(&mut device, &mut buffer) == Some(1)
-        && given(&mut device, &mut buffer) == Some(0);
+    let first = count_read(&mut device, &mut buffer) == Some(2) && buffer == [97, 98];
+    let rest = count_read(&mut device, &mut buffer) == Some(1)
+        && count_read(&mut device, &mut buffer) == Some(0);
     first && rest && device.spent() == 6 && ByteIn::failures(&device) == 0
 }
 
 /// A reader that fails twice has failed twice.
 fn failed_reads_are_reported() -> bool {
-    let mut device = Device::new(Broken);
+    let mut device = Device::new(BrokenDevice);
     let mut buffer = [0; 2];
-    let failed = given(&mut device, &mut buffer).is_none()
-        && given(&mut device, &mut buffer).is_none();
+    let failed = count_read(&mut device, &mut buffer).is_none()
+        && count_read(&mut device, &mut buffer).is_none();
     failed && ByteIn::failures(&device) == 2 && device.spent() == 2
 }
 
 /// Three bytes are written in two chunks.
 fn are_written(alloc: Global) -> bool {
     let mut device = Device::new(Vec::new(alloc));
-    let written = taken(&mut device, b"ab") == Some(2) && taken(&mut device, b"c") == Some(1);
+    let written = count_written(&mut device, b"ab") == Some(2)
+        && count_written(&mut device, b"c") == Some(1);
     written && ByteOut::failures(&device) == 0 && device.get_ref().as_slice() == b"abc".as_slice()
 }
 
 /// A writer that fails, and one that takes none of a byte, have failed; to take nothing of nothing is not a failure.
 fn failed_writes_are_reported() -> bool {
-    let mut broken = Device::new(Broken);
-    let failed = taken(&mut broken, b"a").is_none() && ByteOut::failures(&broken) == 1;
+    let mut broken = Device::new(BrokenDevice);
+    let failed = count_written(&mut broken, b"a").is_none() && ByteOut::failures(&broken) == 1;
     let mut full = Device::new(Full);
-    let none = taken(&mut full, b"a") == Some(0) && taken(&mut full, b"") == Some(0);
+    let none = count_written(&mut full, b"a") == Some(0)
+        && count_written(&mut full, b"") == Some(0);
     failed && none && ByteOut::failures(&full) == 1
 }
 

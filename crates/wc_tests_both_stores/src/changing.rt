@@ -20,7 +20,7 @@ pub(crate) enum Change {
 }
 
 /// One scan with the first input set, if its time is not before the last.
-fn scanned(machine: &mut Machine<'_, SlotStore>, ms: u64) -> Option<(Steps, Outputs)> {
+fn scan(machine: &mut Machine<'_, SlotStore>, ms: u64) -> Option<(Steps, Outputs)> {
     if ms < machine.last() || ms > 1_099_511_627_775 {
         return None;
     }
@@ -34,13 +34,13 @@ fn scanned(machine: &mut Machine<'_, SlotStore>, ms: u64) -> Option<(Steps, Outp
 }
 
 /// What a machine shows: its outputs, its last time and its bound.
-fn shown(machine: &Machine<'_, SlotStore>) -> (Outputs, u64, u32) {
+fn state_of(machine: &Machine<'_, SlotStore>) -> (Outputs, u64, u32) {
     (machine.outputs(), machine.last(), machine.bound())
 }
 
 /// Whether two machines have the same outputs, last time and bound, and the same next scan.
 fn are_alike(one: &mut Machine<'_, SlotStore>, other: &mut Machine<'_, SlotStore>) -> bool {
-    shown(one) == shown(other) && scanned(one, 100) == scanned(other, 100)
+    state_of(one) == state_of(other) && scan(one, 100) == scan(other, 100)
 }
 
 /// Asks one of two machines that are alike for a change.
@@ -67,7 +67,7 @@ fn machine_of<'a>(alloc: Global, text: &'a [u8]) -> Result<Machine<'a, SlotStore
     match load(alloc, text) {
         Ok(loaded) => match Machine::new(alloc, loaded) {
             Ok(mut machine) => {
-                let _scan = scanned(&mut machine, 10);
+                let _scan = scan(&mut machine, 10);
                 Ok(machine)
             }
             Err(fault) => Err(fault),

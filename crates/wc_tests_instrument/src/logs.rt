@@ -34,7 +34,7 @@ pub(crate) fn ends_so<R: ByteIn>(
 }
 
 /// A refusal.
-pub(crate) fn refused(number: u16, place: u32) -> Option<LogFault> {
+pub(crate) fn refusal(number: u16, place: u32) -> Option<LogFault> {
     Some(LogFault::Refused { number, place })
 }
 
@@ -98,7 +98,7 @@ fn first_brings(alloc: Global, text: &[u8], count: usize) -> bool {
 fn brings_4096_bytes(alloc: Global) -> Result<bool, AllocError> {
     let full = row_of_bytes(alloc, 4096)?;
     let long = row_of_bytes(alloc, 4097)?;
-    Ok(first_brings(alloc, &full, 4096) && log_ends(alloc, &long, 0, refused(606, 2)))
+    Ok(first_brings(alloc, &full, 4096) && log_ends(alloc, &long, 0, refusal(606, 2)))
 }
 
 #[test]
@@ -108,11 +108,11 @@ fn a_row_brings_4096_bytes(rt: HostRuntime) {
 
 /// A reader of blank lines whose count may start anywhere.
 #[derive(Drop)]
-struct Counting {
+struct CountingReader {
     spent: u64,
 }
 
-impl ByteIn for Counting {
+impl ByteIn for CountingReader {
     ghost failure_count = { λ _. 0 };
 
     ghost spent_count = { λ reader. reader.spent };
@@ -138,7 +138,7 @@ impl ByteIn for Counting {
 
 /// A log of blank lines is read up to the last count.
 fn ends_with_the_count(alloc: Global, start: u64) -> bool {
-    let mut reader = Counting { spent: start };
+    let mut reader = CountingReader { spent: start };
     ends_so(alloc, &mut reader, 0, Some(LogFault::Read)) && reader.spent() == u64::MAX
 }
 

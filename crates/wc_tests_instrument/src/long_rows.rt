@@ -1,5 +1,5 @@
 //! Rows with more than three fields: of such a row at most 65536 bytes are read.
-use crate::logs::{refused, rows_left};
+use crate::logs::{refusal, rows_left};
 use std::alloc::{AllocError, Global};
 use wc_model::{ByteIn, FuseIn};
 use wc_record::{LogFault, Rows};
@@ -44,14 +44,14 @@ fn row_at(alloc: Global, start: usize) -> Result<Vec<u8, Global>, AllocError> {
 /// A row of commas that starts at that byte is cut.
 fn is_cut_at(alloc: Global, start: usize) -> bool {
     match row_at(alloc, start) {
-        Ok(text) => ends_with(alloc, &text, b",", 90000, 0, refused(601, 2)),
+        Ok(text) => ends_with(alloc, &text, b",", 90000, 0, refusal(601, 2)),
         Err(_) => false,
     }
 }
 
 #[test]
 fn a_row_of_commas(rt: HostRuntime) {
-    let spent = spent_until(rt.alloc(), b"ms,kind,data\n0,S,\n", b",", refused(601, 3));
+    let spent = spent_until(rt.alloc(), b"ms,kind,data\n0,S,\n", b",", refusal(601, 3));
     assert!(rt; spent > 0 && spent < 200000);
 }
 
@@ -154,7 +154,7 @@ fn logs_with_long_rows(rt: HostRuntime) {
 
 #[test]
 fn a_long_third_field(rt: HostRuntime) {
-    assert!(rt; spent_until(rt.alloc(), b"ms,kind,data\n0,L,", b"00", refused(606, 2)) > 80000);
+    assert!(rt; spent_until(rt.alloc(), b"ms,kind,data\n0,L,", b"00", refusal(606, 2)) > 80000);
 }
 
 #[test]

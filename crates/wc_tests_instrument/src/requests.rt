@@ -3,7 +3,7 @@ use std::alloc::Global;
 use wc_indicator::Indicator;
 use wc_model::{Device, Fault};
 use wc_plate::plate;
-use wc_sma::{Asked, Line, Mode, answer};
+use wc_sma::{Line, Mode, RequestOutcome, answer};
 
 /// The plate of 15 kg in steps of 5 g: 3000 intervals of 200 counts, and 4 samples in the window.
 const FIFTEEN_KILOGRAMS: &[u8] =
@@ -32,7 +32,7 @@ fn answers(line: &mut Line, indicator: &mut Indicator, chunk: &[u8], out: &mut V
 }
 
 /// What the line answers to the stream if it comes in two chunks, the first of n bytes; nothing if it can't.
-fn answered(alloc: Global, cut: usize) -> Vec<u8> {
+fn answers_in_chunks(alloc: Global, cut: usize) -> Vec<u8> {
     let mut out = Vec::new(alloc);
     if let (Ok(mut indicator), Some(first), Some(second)) = (
         at_rest(alloc, 20000),
@@ -51,9 +51,9 @@ fn answered(alloc: Global, cut: usize) -> Vec<u8> {
 
 /// However the stream is cut in two, it is answered as the whole is.
 fn are_all_cuts_alike(alloc: Global) -> bool {
-    let whole = answered(alloc, 0);
+    let whole = answers_in_chunks(alloc, 0);
     for cut in 0..=STREAM.len() {
-        let found = answered(alloc, cut);
+        let found = answers_in_chunks(alloc, cut);
         if found.as_slice() != whole.as_slice() {
             return false;
         }
@@ -62,7 +62,7 @@ fn are_all_cuts_alike(alloc: Global) -> bool {
 }
 
 /// With a load of 1.250 kg the answer in this mode to this is these bytes.
-fn is_answer(alloc: Global, mode: Mode, asked: Asked, wanted: &[u8; 20]) -> bool {
+fn is_answer(alloc: Global, mode: Mode, asked: RequestOutcome, wanted: &[u8; 20]) -> bool {
     match at_rest(alloc, 60000) {
         Ok(indicator) => answer(&indicator, mode, asked) == *wanted,
         Err(_) => false,
@@ -89,7 +89,7 @@ fn is_state_reported(line: &mut Line, indicator: &mut Indicator, out: &mut Vec<u
     zeroed && tared && are_both_known(line, indicator)
 }
 
-/// The same of a line and an indicator at 11000 counts.
+/// Whether the state of a line and of an indicator at 11000 counts is reported.
 fn is_state_reported_at_rest(alloc: Global) -> bool {
     match at_rest(alloc, 11000) {
         Ok(mut indicator) => {
@@ -110,10 +110,22 @@ fn streams_are_cut_anywhere(rt: HostRuntime) {
 }
 
 /// Answers, each after the mode and what is asked for.
-const ANSWERS: [(Mode, Asked, &[u8; 20]); 3] = [
-    (Mode::Shown, Asked::Plain, b"\n 1G       1.250kg \r"),
-    (Mode::Tare, Asked::ZeroRefused, b"\nE1T       0.000kg \r"),
-    (Mode::Shown, Asked::TareRefused, b"\nT1G       1.250kg \r"),
+const ANSWERS: [(Mode, RequestOutcome, &[u8; 20]); 3] = [
+    (
+        Mode::Shown,
+        RequestOutcome::Plain,
+        b"\n 1G       1.250kg \r",
+    ),
+    (
+        Mode::Tare,
+        RequestOutcome::ZeroRefused,
+        b"\nE1T       0.000kg \r",
+    ),
+    (
+        Mode::Shown,
+        RequestOutcome::TareRefused,
+        b"\nT1G       1.250kg \r",
+    ),
 ];
 
 #[test]

@@ -46,7 +46,7 @@ fn reads(alloc: Global, reader: Option<FuseIn<'_>>, count: usize) -> bool {
 }
 
 /// What a fault is called.
-fn called(fault: ReadFault) -> &'static str {
+fn fault_name(fault: ReadFault) -> &'static str {
     match fault {
         ReadFault::TooLong => "too long",
         ReadFault::Read => "read",
@@ -67,7 +67,7 @@ fn refuses(
     };
     match read_whole(alloc, &mut reader) {
         Ok(_) => false,
-        Err(raised) => called(raised) == fault
+        Err(raised) => fault_name(raised) == fault
             && reader.failures() == failures
             && bytes_after(&mut reader) == following,
     }

@@ -1,6 +1,6 @@
 //! A program that is changed between two scans: which place of the old one each place carries on.
 
-use crate::texts::loaded;
+use crate::texts::load_text;
 use std::alloc::Global;
 use wc_cost::Loaded;
 use wc_model::{Fault, Place};
@@ -16,7 +16,7 @@ const SUMMING: &[u8] =
     CAL t(IN := %IX0.0, PT := T#100ms)\nLD t.Q\nST %QX0.0\nEND_PROGRAM\n";
 
 /// The old place whose value a place of a text keeps; nothing if there is no such place.
-fn carried(new: &Loaded<'_>, old: &Loaded<'_>, place: u16) -> Option<Place> {
+fn carried_place(new: &Loaded<'_>, old: &Loaded<'_>, place: u16) -> Option<Place> {
     if usize::from(place) < new.size() {
         new.carry(old, Place(place))
     } else {
@@ -27,10 +27,10 @@ fn carried(new: &Loaded<'_>, old: &Loaded<'_>, place: u16) -> Option<Place> {
 /// The places of the summing program carry on those of the counting one: an address, a field, a number that is
 /// elsewhere, and nothing for what is new.
 fn are_carried(new: &Loaded<'_>, old: &Loaded<'_>) -> bool {
-    let address = carried(new, old, 44) == Some(Place(44));
-    let field = carried(new, old, 50) == Some(Place(51));
-    let number = carried(new, old, 51) == Some(Place(45));
-    new.size() == 53 && address && field && number && carried(new, old, 52).is_none()
+    let address = carried_place(new, old, 44) == Some(Place(44));
+    let field = carried_place(new, old, 50) == Some(Place(51));
+    let number = carried_place(new, old, 51) == Some(Place(45));
+    new.size() == 53 && address && field && number && carried_place(new, old, 52).is_none()
 }
 
 /// Both were loaded, and the places of the one carry on those of the other.
@@ -43,7 +43,7 @@ fn are_carried_from(new: &Result<Loaded<'_>, Fault>, old: &Result<Loaded<'_>, Fa
 
 /// The same for the summing program and the counting one.
 fn are_carried_over(alloc: Global) -> bool {
-    are_carried_from(&loaded(alloc, SUMMING), &loaded(alloc, COUNTING))
+    are_carried_from(&load_text(alloc, SUMMING), &load_text(alloc, COUNTING))
 }
 
 #[test]

@@ -1,7 +1,7 @@
 //! Declarations of texts: names, types, frames and places.
-use crate::texts::tabled;
+use crate::texts::tables_of;
 use std::alloc::Global;
-use wc_declare::{DeclaredType, Entity, Formal, Frame, Located, Tables};
+use wc_declare::{DeclaredType, Entity, Formal, Frame, Tables, VariablePlace};
 use wc_model::{Direction, Fault, Kind, Operand, Path, Place, SlotKind, StandardBlock, Word};
 
 /// A block of ten places, and a program with a timer, two instances of the block and plain variables.
@@ -80,11 +80,11 @@ fn have_formals(tables: &Tables<'_>) -> bool {
 
 /// Variables of the program have their type, and their places begin there.
 fn begin_somewhere(tables: &Tables<'_>) -> bool {
-    let timer = Located {
+    let timer = VariablePlace {
         declared: DeclaredType::Standard(StandardBlock::Ton),
         first: 46,
     };
-    let two = Located {
+    let two = VariablePlace {
         declared: DeclaredType::Block(0),
         first: 62,
     };
@@ -191,7 +191,7 @@ fn are_right(alloc: Global, tables: &Result<Tables<'_>, Fault>) -> bool {
 
 /// All that the tables of their text say.
 fn are_right_for_the_text(alloc: Global) -> bool {
-    are_right(alloc, &tabled(alloc, PLANT))
+    are_right(alloc, &tables_of(alloc, PLANT))
 }
 
 #[test]
@@ -221,7 +221,7 @@ fn have_first_values(alloc: Global, tables: &Result<Tables<'_>, Fault>) -> bool 
 
 /// The frame of the text has these first values.
 fn are_first_values(alloc: Global) -> bool {
-    have_first_values(alloc, &tabled(alloc, INITIAL))
+    have_first_values(alloc, &tables_of(alloc, INITIAL))
 }
 
 #[test]
@@ -231,7 +231,7 @@ fn frames_have_first_values(rt: HostRuntime) {
 
 /// A text is refused so.
 fn is_refused(alloc: Global, text: &[u8], number: u16, place: u32) -> bool {
-    match tabled(alloc, text) {
+    match tables_of(alloc, text) {
         Ok(_) => false,
         Err(fault) => fault == Fault::Refused { number, place },
     }

@@ -1,8 +1,8 @@
 //! The flat lines of units.
-use crate::texts::loaded;
+use crate::texts::load_text;
 use std::alloc::Global;
 use wc_cost::Loaded;
-use wc_model::{Code, Fault, Operator, Place, StandardBlock, Storing};
+use wc_model::{Code, Fault, Operator, Place, StandardBlock, StoreKind};
 
 /// A block of two places, and a program with a timer, an instance of the block and plain variables.
 const PLANT: &[u8] =
@@ -21,7 +21,7 @@ fn is_next(code: &[Code]) -> bool {
                 number: 1,
             },
             Code::Store {
-                storing: Storing::Result,
+                storing: StoreKind::Result,
                 target: Place(1),
             },
         ] => true,
@@ -71,7 +71,7 @@ fn is_flat(loaded: &Result<Loaded<'_>, Fault>) -> bool {
 
 /// Both units of a text are lowered so.
 fn is_text_flat(alloc: Global, text: &[u8]) -> bool {
-    is_flat(&loaded(alloc, text))
+    is_flat(&load_text(alloc, text))
 }
 
 #[test]

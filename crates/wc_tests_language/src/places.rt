@@ -1,5 +1,5 @@
 //! The places of a loaded text, and the frame that its program begins with.
-use crate::texts::loaded;
+use crate::texts::load_text;
 use wc_cost::Loaded;
 use wc_model::{Fault, Path, Place, SlotKind};
 
@@ -84,5 +84,5 @@ fn are_right(loaded: &Result<Loaded<'_>, Fault>) -> bool {
 
 #[test]
 fn places_are_the_programs(rt: HostRuntime) {
-    assert!(rt; are_right(&loaded(rt.alloc(), PLANT)));
+    assert!(rt; are_right(&load_text(rt.alloc(), PLANT)));
 }

@@ -1,7 +1,7 @@
 //! Programs scan by scan, over both stores.
 ghost use Rattle.std.specs.Prelude.{◌≡◌};
 
-use crate::texts::loaded;
+use crate::texts::load_text;
 use std::alloc::Global;
 use wc_machine::Machine;
 use wc_model::{Fault, Image, Outputs, Place, Steps};
@@ -19,11 +19,7 @@ fn image(inputs: u16) -> Image
 }
 
 /// A scan of the inputs if its moment is not before the last: its steps and what is at the outputs.
-fn scanned<S: Store>(
-    machine: &mut Machine<'_, S>,
-    ms: u64,
-    inputs: u16,
-) -> Option<(Steps, Outputs)> {
+fn scan<S: Store>(machine: &mut Machine<'_, S>, ms: u64, inputs: u16) -> Option<(Steps, Outputs)> {
     if ms < machine.last() || ms > 1_099_511_627_775 {
         return None;
     }
@@ -32,11 +28,11 @@ fn scanned<S: Store>(
 }
 
 /// Steps, bits and words of scans with each of the inputs, at each hundredth of a second, mixed into one number.
-fn mixed<S: Store>(machine: &mut Machine<'_, S>, all: &[u16]) -> i64 {
+fn mixed_scans<S: Store>(machine: &mut Machine<'_, S>, all: &[u16]) -> i64 {
     let mut mix = i64::from(machine.bound());
     let mut ms = 0_u64;
     for inputs in all {
-        if let Some((steps, outputs)) = scanned(machine, ms, *inputs) {
+        if let Some((steps, outputs)) = scan(machine, ms, *inputs) {
             mix = mix.wrapping_mul(1000003).wrapping_add(i64::from(steps.0));
             mix = mix
                 .wrapping_mul(1000003)
@@ -50,17 +46,17 @@ fn mixed<S: Store>(machine: &mut Machine<'_, S>, all: &[u16]) -> i64 {
     mix
 }
 
-/// The same of a machine, if it was made.
+/// The scans of a machine mixed into one number, if it was made.
 fn mixed_if_made<S: Store>(made: &mut Result<Machine<'_, S>, Fault>, all: &[u16]) -> Option<i64> {
     match made {
-        Ok(machine) => Some(mixed(machine, all)),
+        Ok(machine) => Some(mixed_scans(machine, all)),
         Err(_) => None,
     }
 }
 
-/// The same of a text over a store; nothing if it is refused.
+/// The scans of a text over a store mixed into one number; nothing if the text is refused.
 fn mixed_over<S: Store>(alloc: Global, text: &[u8], all: &[u16]) -> Option<i64> {
-    match loaded(alloc, text) {
+    match load_text(alloc, text) {
         Ok(loaded) => mixed_if_made(&mut Machine::<S>::new(alloc, loaded), all),
         Err(_) => None,
     }
@@ -115,7 +111,7 @@ fn sees(machine: &mut Machine<'_, SlotStore>) -> bool {
     has_seen(machine) && steps == Steps(10) && machine.last() == 7
 }
 
-/// The same of a machine, if it was made.
+/// Whether a machine sees the image, if it was made.
 fn sees_if_made(made: &mut Result<Machine<'_, SlotStore>, Fault>) -> bool {
     match made {
         Ok(machine) => sees(machine),
@@ -127,7 +123,7 @@ fn sees_if_made(made: &mut Result<Machine<'_, SlotStore>, Fault>) -> bool {
 fn is_seen(alloc: Global) -> bool {
     let text =
         b"PROGRAM P\nLD %IX1.0\nST %QX0.0\nLD %IX1.5\nST %QX0.1\nLD %ID0\nST %QD0\nLD %ID1\nST %QD1\nLD %ID2\nST %QD2\nEND_PROGRAM";
-    match loaded(alloc, text) {
+    match load_text(alloc, text) {
         Ok(loaded) => sees_if_made(&mut Machine::new(alloc, loaded)),
         Err(_) => false,
     }

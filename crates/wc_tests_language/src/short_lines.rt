@@ -2,7 +2,7 @@
 ghost use Rattle.std.specs.Prelude.{◌≤◌};
 
 use std::alloc::Global;
-use wc_model::{Condition, Decl, Fault, Instr, Line, Operand, Operator, Source, Storing, Value};
+use wc_model::{Condition, Decl, Fault, Instr, Line, Operand, Operator, Source, StoreKind, Value};
 use wc_reader::read;
 
 /// What an operand is: a number for its form, and its value or the number of letters it has.
@@ -31,14 +31,14 @@ fn condition_number(condition: Condition) -> u8
 }
 
 /// A number for what is stored.
-fn storing_number(storing: Storing) -> u8
+fn storing_number(storing: StoreKind) -> u8
     ensures { result ≤ 3 }
 {
     match storing {
-        Storing::Result => 0,
-        Storing::Negation => 1,
-        Storing::Set => 2,
-        Storing::Reset => 3,
+        StoreKind::Result => 0,
+        StoreKind::Negation => 1,
+        StoreKind::Set => 2,
+        StoreKind::Reset => 3,
     }
 }
 

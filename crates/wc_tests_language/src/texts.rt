@@ -7,7 +7,7 @@ use wc_reader::read;
 use wc_verify::{Checked, verify};
 
 /// The tables of a text.
-pub(crate) fn tabled<'a>(alloc: Global, text: &'a [u8]) -> Result<Tables<'a>, Fault> {
+pub(crate) fn tables_of<'a>(alloc: Global, text: &'a [u8]) -> Result<Tables<'a>, Fault> {
     match read(alloc, text) {
         Ok(source) => tables(alloc, &source),
         Err(fault) => Err(fault),
@@ -15,7 +15,7 @@ pub(crate) fn tabled<'a>(alloc: Global, text: &'a [u8]) -> Result<Tables<'a>, Fa
 }
 
 /// A text through the passes up to the rules on bodies.
-pub(crate) fn checked<'a>(alloc: Global, text: &'a [u8]) -> Result<Checked<'a>, Fault> {
+pub(crate) fn check<'a>(alloc: Global, text: &'a [u8]) -> Result<Checked<'a>, Fault> {
     let source = match read(alloc, text) {
         Ok(source) => source,
         Err(fault) => return Err(fault),
@@ -27,8 +27,8 @@ pub(crate) fn checked<'a>(alloc: Global, text: &'a [u8]) -> Result<Checked<'a>, 
 }
 
 /// A text through all passes.
-pub(crate) fn loaded<'a>(alloc: Global, text: &'a [u8]) -> Result<Loaded<'a>, Fault> {
-    match checked(alloc, text) {
+pub(crate) fn load_text<'a>(alloc: Global, text: &'a [u8]) -> Result<Loaded<'a>, Fault> {
+    match check(alloc, text) {
         Ok(checked) => cost(alloc, checked),
         Err(fault) => Err(fault),
     }

@@ -1,5 +1,5 @@
 //! What is suspicious of texts that the verifier accepts.
-use crate::texts::checked;
+use crate::texts::check;
 use std::alloc::Global;
 use wc_diag_warnings::{Warning, find_warnings};
 use wc_model::{Fault, Source};
@@ -34,7 +34,7 @@ fn has_warnings(alloc: Global, read: &Result<Source<'_>, Fault>, rows: &[Row]) -
 
 /// The text is accepted, and its warnings are these.
 fn is_warned(alloc: Global, text: &[u8], rows: &[Row]) -> bool {
-    checked(alloc, text).is_ok() && has_warnings(alloc, &read(alloc, text), rows)
+    check(alloc, text).is_ok() && has_warnings(alloc, &read(alloc, text), rows)
 }
 
 #[test]

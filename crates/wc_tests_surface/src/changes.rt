@@ -1,5 +1,5 @@
 //! A change of the program: it is made if memory is granted, and else the old machine is as it was.
-use crate::machines::scanned;
+use crate::machines::scan;
 use crate::passes::loaded_of;
 use std::alloc::Global;
 use wc_cost::Loaded;
@@ -21,8 +21,8 @@ fn scanned_twice<'a>(alloc: Global, text: &'a [u8]) -> Result<Machine<'a, SlotSt
     match loaded_of(alloc, text) {
         Ok(loaded) => match Machine::new(alloc, loaded) {
             Ok(mut machine) => {
-                let _first = scanned(&mut machine, 0);
-                let _second = scanned(&mut machine, 60);
+                let _first = scan(&mut machine, 0);
+                let _second = scan(&mut machine, 60);
                 Ok(machine)
             }
             Err(fault) => Err(fault),
@@ -32,7 +32,7 @@ fn scanned_twice<'a>(alloc: Global, text: &'a [u8]) -> Result<Machine<'a, SlotSt
 }
 
 /// The change of a machine.
-fn changed<'a>(
+fn change<'a>(
     alloc: Global,
     machine: Machine<'a, SlotStore>,
     next: Loaded<'a>,
@@ -42,26 +42,26 @@ fn changed<'a>(
 
 /// The next scan of a changed machine adds 7 to the number that was kept, and the timer that runs on ends.
 fn goes_on(machine: &mut Machine<'_, SlotStore>) -> bool {
-    let steps = scanned(machine, 100);
+    let steps = scan(machine, 100);
     let outputs = machine.outputs();
     steps == Some(Steps(9)) && outputs.bits == 1 && outputs.words == [14, 0, 0, 0]
 }
 
 /// What a machine shows: its outputs, its last time and its bound.
-fn shown(machine: &Machine<'_, SlotStore>) -> (Outputs, u64, u32) {
+fn state_of(machine: &Machine<'_, SlotStore>) -> (Outputs, u64, u32) {
     (machine.outputs(), machine.last(), machine.bound())
 }
 
 /// A machine has the same outputs, last time and bound as another, and the same next scan.
 fn are_alike(one: &mut Machine<'_, SlotStore>, other: &mut Machine<'_, SlotStore>) -> bool {
-    let same = shown(one) == shown(other);
-    let steps = scanned(one, 100) == scanned(other, 100);
+    let same = state_of(one) == state_of(other);
+    let steps = scan(one, 100) == scan(other, 100);
     same && steps && one.outputs() == other.outputs()
 }
 
 /// Changes a machine: whether the change was made and goes on rightly.
 fn is_changed<'a>(alloc: Global, machine: Machine<'a, SlotStore>, next: Loaded<'a>) -> bool {
-    match changed(alloc, machine, next) {
+    match change(alloc, machine, next) {
         Ok(mut machine) => goes_on(&mut machine),
         Err(_) => false,
     }
@@ -74,7 +74,7 @@ fn is_changed_or_back<'a>(
     other: &mut Machine<'a, SlotStore>,
     next: Loaded<'a>,
 ) -> bool {
-    match changed(alloc, machine, next) {
+    match change(alloc, machine, next) {
         Ok(_) => true,
         Err((mut back, fault)) => fault == Fault::Memory && are_alike(&mut back, other),
     }

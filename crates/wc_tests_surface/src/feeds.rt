@@ -6,7 +6,7 @@ use wc_model::{ByteOut, FuseOut};
 use wc_sma::{Line, WriteFault};
 
 /// Feeds a chunk to the line.
-fn fed<W: ByteOut>(
+fn feed<W: ByteOut>(
     line: &mut Line,
     chunk: &[u8],
     indicator: &mut Indicator,
@@ -21,7 +21,7 @@ fn fails_at_the_second_answer(
     indicator: &mut Indicator,
     writer: &mut FuseOut,
 ) -> bool {
-    let first = fed(line, b"\nZ\r\nW\r", indicator, writer) == Err(WriteFault);
+    let first = feed(line, b"\nZ\r\nW\r", indicator, writer) == Err(WriteFault);
     let written = writer.written() == b"\nZ1G       0.000kg \r\nZ1G ".as_slice();
     first && written && indicator.gross() == Some(0) && writer.failures() == 1
 }
@@ -31,7 +31,7 @@ fn acts_no_more(line: &mut Line, indicator: &mut Indicator, writer: &mut FuseOut
     for _ in 0..4 {
         indicator.sample(42000);
     }
-    let refused = fed(line, b"\nT\r", indicator, writer) == Err(WriteFault);
+    let refused = feed(line, b"\nT\r", indicator, writer) == Err(WriteFault);
     refused && writer.written().len() == 25 && !indicator.tare_active()
 }
 
@@ -53,7 +53,7 @@ fn over_no_byte(alloc: Global) -> Result<bool, AllocError> {
         return Ok(false);
     };
     let mut line = Line::new();
-    let failed = fed(&mut line, b"\nZ\r\nT\r", &mut indicator, &mut writer) == Err(WriteFault);
+    let failed = feed(&mut line, b"\nZ\r\nT\r", &mut indicator, &mut writer) == Err(WriteFault);
     let zeroed = indicator.gross() == Some(0) && !indicator.tare_active();
     Ok(failed && zeroed && writer.written().is_empty() && writer.failures() == 1)
 }

@@ -6,7 +6,7 @@ use wc_indicator::{Indicator, Refused};
 use wc_model::{Fault, Image};
 use wc_plate::{Plate, plate};
 use wc_record::image;
-use wc_sma::{Asked, Mode, answer};
+use wc_sma::{Mode, RequestOutcome, answer};
 
 /// A scale of 15 kg with intervals of 5 g, 200 counts each.
 pub(crate) const PLATE: &[u8] =
@@ -61,7 +61,7 @@ fn reads(indicator: &Indicator) -> bool {
 /// What a scan sees, and the line's answer of 20 bytes.
 fn is_seen(indicator: &Indicator) -> bool {
     let seen: Image = image(indicator, 3);
-    let bytes: [u8; 20] = answer(indicator, Mode::Shown, Asked::Plain);
+    let bytes: [u8; 20] = answer(indicator, Mode::Shown, RequestOutcome::Plain);
     let format = *b"\n 1G       1.250kg \r";
     let plate: &Plate = indicator.plate();
     seen.inputs == 3 && seen.weights == [1250, 1250, 0] && bytes == format && plate.e() == 5

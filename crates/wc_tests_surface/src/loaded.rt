@@ -58,7 +58,7 @@ fn has_the_texts_worst_path(alloc: Global) -> bool {
 }
 
 /// The old place whose value a place keeps.
-fn carried(new: &Loaded<'_>, old: &Loaded<'_>, place: Place) -> Option<Place> {
+fn carried_place(new: &Loaded<'_>, old: &Loaded<'_>, place: Place) -> Option<Place> {
     if usize::from(place.0) < new.size() {
         new.carry(old, place)
     } else {
@@ -69,7 +69,7 @@ fn carried(new: &Loaded<'_>, old: &Loaded<'_>, place: Place) -> Option<Place> {
 /// A loaded text has its program and its frame, and carries on the last place of the same.
 fn answers(loaded: &Loaded<'_>, same: &Loaded<'_>) -> bool {
     let program = has_a_program(loaded) && has_a_frame(loaded);
-    program && carried(loaded, same, Place(54)) == Some(Place(54))
+    program && carried_place(loaded, same, Place(54)) == Some(Place(54))
 }
 
 /// The text, loaded twice, answers so.

@@ -12,7 +12,7 @@ fn machine_over<'a, S: Store>(alloc: Global, loaded: Loaded<'a>) -> Result<Machi
 }
 
 /// One scan with the first input set, if its time is not before the last.
-pub(crate) fn scanned<S: Store>(machine: &mut Machine<'_, S>, now: u64) -> Option<Steps> {
+pub(crate) fn scan<S: Store>(machine: &mut Machine<'_, S>, now: u64) -> Option<Steps> {
     if now < machine.last() || now > 1_099_511_627_775 {
         return None;
     }
@@ -26,7 +26,7 @@ pub(crate) fn scanned<S: Store>(machine: &mut Machine<'_, S>, now: u64) -> Optio
 
 /// A scan takes 21 instructions of at most 24, and counts one edge.
 fn counts_one_edge<S: Store>(machine: &mut Machine<'_, S>) -> bool {
-    let steps = scanned(machine, 7);
+    let steps = scan(machine, 7);
     let outputs: Outputs = machine.outputs();
     let numbers: (u64, u32) = (machine.last(), machine.bound());
     steps == Some(Steps(21)) && outputs.words == [1, 0, 0, 0] && numbers == (7, 24)

@@ -115,14 +115,14 @@ fn keeps_both(checked: &Checked<'_>) -> bool {
 }
 
 /// The cost pass.
-fn costed<'a>(alloc: Global, checked: Checked<'a>) -> Result<Loaded<'a>, Fault> {
+fn cost_of<'a>(alloc: Global, checked: Checked<'a>) -> Result<Loaded<'a>, Fault> {
     cost(alloc, checked)
 }
 
 /// The text is checked, and then has a cost.
 fn is_costed(alloc: Global) -> bool {
     match checked_of(alloc, COUNTING) {
-        Ok(checked) => keeps_both(&checked) && costed(alloc, checked).is_ok(),
+        Ok(checked) => keeps_both(&checked) && cost_of(alloc, checked).is_ok(),
         Err(_) => false,
     }
 }

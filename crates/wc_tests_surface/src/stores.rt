@@ -6,7 +6,7 @@ use wc_model::{Fault, Place, SlotKind, wrap32};
 use wc_store::{NamedStore, SlotStore, Store};
 
 /// A store of two places.
-fn made<S: Store>(alloc: Global, kinds: &[SlotKind]) -> Result<S, Fault>
+fn make_store<S: Store>(alloc: Global, kinds: &[SlotKind]) -> Result<S, Fault>
     ensures { IfOk result (λ store. S.slot_kinds store ≡ kinds.now) }
 {
     S::make(alloc, kinds)
@@ -14,7 +14,7 @@ fn made<S: Store>(alloc: Global, kinds: &[SlotKind]) -> Result<S, Fault>
 
 /// What is written to a place is read there, and the other stays 0.
 fn is_a_store<S: Store>(alloc: Global) -> bool {
-    match made::<S>(alloc, &[SlotKind::Bool, SlotKind::Dint]) {
+    match make_store::<S>(alloc, &[SlotKind::Bool, SlotKind::Dint]) {
         Ok(mut store) => {
             let size: usize = store.size();
             store.set(Place(1), -5);

@@ -4,7 +4,7 @@ use Rattle.wc_model.proofs.Common.{eqb-true, drop-drop}
 use Rattle.std.specs.Prelude.{◌&&◌, ◌+◌, ◌==◌}
 use Rattle.wc_laws_grammar.specs.LineMoves as lines
 use Rattle.wc_laws_grammar.specs.Moves as moves
-use Rattle.wc_laws_grammar.specs.{State, colon_next, fault_at, move, fault_at_line, start_move, section_of_word, is_full, fault_if, on_line, after_line, Operation, Operating, Loads, Stores, Applies, found, operations, truths, step_of}
+use Rattle.wc_laws_grammar.specs.{State, colon_next, fault_at, move, fault_at_line, start_move, section_of_word, is_full, fault_if, on_line, after_line, Operation, OperandOperator, Loads, Stores, Applies, found, operations, truths, step_of}
 use Rattle.wc_laws_grammar.specs.Words as words
 use Rattle.wc_model.specs.Definitions.{same_name, Name, name_of, Term, end_word, Position, TooMany, mark_of_token, symbol_of}
 use Rattle.wc_model.specs.Language.Tree as tree
@@ -30,14 +30,14 @@ pub one_on : (state next : State) (mark : Mark) (following : List Mark) (colon :
 one_on state next mark following colon c e m = record { same = λ last. at_move state next mark following last colon c (ap (option_map fault_of) (sym e)) (sym m) }
 
 -- where an operand and the line's end lead
-abbrev EndsAs : Position → lines.StartedLine → Operating → Symbol → ℕ → ℕ → List Mark → Option Term → Type 0
+abbrev EndsAs : Position → lines.StartedLine → OperandOperator → Symbol → ℕ → ℕ → List Mark → Option Term → Type 0
 EndsAs p started operating symbol line end following None = Unit {0}
 EndsAs p started operating symbol line end following (Some term) =
     GoesOn (moves.OnLine p (lines.Operated started operating)) (record { symbol = symbol; line = line } ∷ record { symbol = LineEnd; line = end } ∷ following)
     (moves.AtLine (after_line p (lines.Instructs started.label started.line (step_of operating term)))) following
 
 -- where an identifier leads that is an operand
-named : (p : Position) (started : lines.StartedLine) (operating : Operating) (bytes : List ℕ) (line end last : ℕ) (following : List Mark)
+named : (p : Position) (started : lines.StartedLine) (operating : OperandOperator) (bytes : List ℕ) (line end last : ℕ) (following : List Mark)
     → walk (moves.OnLine p (lines.Operated started operating)) (record { symbol = Identifier bytes; line = line } ∷ record { symbol = LineEnd; line = end } ∷ following) last
     ≡ walk (on_line p (lines.name_or_literal started (lines.OfStep operating) (name_of bytes) (found truths (name_of bytes)))) (record { symbol = LineEnd; line = end } ∷ following) last
 named p started (Loads negated) bytes line end last following = refl
@@ -45,21 +45,21 @@ named p started (Stores storing) bytes line end last following = refl
 named p started (Applies operator) bytes line end last following = refl
 
 -- the line's end after a name, or after TRUE or FALSE
-name_ends : (p : Position) (started : lines.StartedLine) (operating : Operating) (name : Name) (truth : Option Bool) (end last : ℕ) (following : List Mark)
+name_ends : (p : Position) (started : lines.StartedLine) (operating : OperandOperator) (name : Name) (truth : Option Bool) (end last : ℕ) (following : List Mark)
     → walk (on_line p (lines.name_or_literal started (lines.OfStep operating) name truth)) (record { symbol = LineEnd; line = end } ∷ following) last
     ≡ walk (moves.AtLine (after_line p (lines.Instructs started.label started.line (step_of operating (name_or_truth name truth))))) following last
 name_ends p started operating name None end last following = refl
 name_ends p started operating name (Some value) end last following = refl
 
 -- an identifier as an operand
-named_operand : (p : Position) (started : lines.StartedLine) (operating : Operating) (bytes : List ℕ) (line end : ℕ) (following : List Mark)
+named_operand : (p : Position) (started : lines.StartedLine) (operating : OperandOperator) (bytes : List ℕ) (line end : ℕ) (following : List Mark)
     → EndsAs p started operating (Identifier bytes) line end following (operand_of (Identifier bytes) line)
 named_operand p started operating bytes line end following = record {
   same = λ last. named p started operating bytes line end last following ∙ name_ends p started operating (name_of bytes) (found truths (name_of bytes)) end last following;
 }
 
 -- any symbol as an operand
-any_operand : (p : Position) (started : lines.StartedLine) (operating : Operating) (symbol : Symbol) (line end : ℕ) (following : List Mark)
+any_operand : (p : Position) (started : lines.StartedLine) (operating : OperandOperator) (symbol : Symbol) (line end : ℕ) (following : List Mark)
     → EndsAs p started operating symbol line end following (operand_of symbol line)
 any_operand p started operating (Identifier bytes) line end following = named_operand p started operating bytes line end following
 any_operand p started (Loads negated) (Direct bytes) line end following = record { same = λ last. refl }
@@ -77,7 +77,7 @@ any_operand p started (Applies operator) (Truth value) line end following = reco
 any_operand p started operating symbol line end following = tt
 
 -- an operand and the line's end
-pub operand_ends : (p : Position) (started : lines.StartedLine) (operating : Operating) (symbol : Symbol) (line end : ℕ) (following : List Mark) (term : Term) → operand_of symbol line ≡ Some term
+pub operand_ends : (p : Position) (started : lines.StartedLine) (operating : OperandOperator) (symbol : Symbol) (line end : ℕ) (following : List Mark) (term : Term) → operand_of symbol line ≡ Some term
     → GoesOn (moves.OnLine p (lines.Operated started operating)) (record { symbol = symbol; line = line } ∷ record { symbol = LineEnd; line = end } ∷ following)
     (moves.AtLine (after_line p (lines.Instructs started.label started.line (step_of operating term)))) following
 operand_ends p started operating symbol line end following term e = subst (EndsAs p started operating symbol line end following) e (any_operand p started operating symbol line end following)
@@ -122,7 +122,7 @@ then_on a b c tokens following n m e g h =
     (and_on a b c (marks_of tokens) (marks_of (drop n tokens)) (marks_of (drop m (drop n tokens))) g (subst (λ xs. GoesOn b (marks_of xs) c (marks_of (drop m xs))) e h))
 
 -- an operator with its operand
-pub makes_operated : (operating : Operating) (mark : Mark) (term : Term) → operand_of mark.symbol mark.line ≡ Some term → Makes (words.Operates operating) mark (step_of operating term)
+pub makes_operated : (operating : OperandOperator) (mark : Mark) (term : Term) → operand_of mark.symbol mark.line ≡ Some term → Makes (words.Operates operating) mark (step_of operating term)
 makes_operated operating mark term e = record {
   no_colon = operand_is_no_colon mark.symbol mark.line term e;
   ends = λ p line end following. operand_ends p (record { label = None; line = line }) operating mark.symbol mark.line end following term e;

@@ -1,6 +1,6 @@
 -- Tokens that are taken several at a time. (No rule of the language.)
 use Rattle.std.specs.Prelude.{◌≡◌, ◌<◌, ℕ, Bool, false, List, ◌∷◌, Option, Some, None, drop}
-use Rattle.wc_laws_grammar.specs.{AtNext, formal_of, StartedLine, Instructs, Listed, Listing, after_operator, with_argument, State, AtLine, OnLine, after_line, is_colon, fault_at, move, on_line, Operation, found, truths}
+use Rattle.wc_laws_grammar.specs.{AtNext, formal_of, StartedLine, Instructs, OpenCall, Listing, after_operator, with_argument, State, AtLine, OnLine, after_line, is_colon, fault_at, move, on_line, Operation, found, truths}
 use Rattle.wc_model.specs.Definitions.{Name, name_of, Position}
 use Rattle.wc_lexer.specs.declared.shape.Token.{Token}
 use Rattle.wc_model.specs.Language.Tree.{Assignment, Call, ProgramUnit, Step, Term, Constant, Address, Variable}
@@ -10,7 +10,7 @@ use Rattle.wc_text_bodies.specs.Views.{position_view, walk}
 use Rattle.wc_text_bodies.specs.declared.bodies.Body.{Body}
 use Rattle.wc_text_lines.specs.LineViews.{listed_view}
 use Rattle.wc_text_lines.specs.Words.{marks_of}
-use Rattle.wc_text_lines.specs.declared.line_state.Listed.{Listed as CodeListed}
+use Rattle.wc_text_lines.specs.declared.line_state.OpenCall.{OpenCall as CodeListed}
 
 -- A text whose walk is at one state with these tokens to come is read as if it were at the
 -- other with those: the walk says the same, and stops at the same state.
@@ -40,11 +40,11 @@ pub record IsLine (p : Position) (first second : Mark) (step : Step) : Type 0 wh
       (AtLine (after_line p (Instructs None first.line step))) following
 
 -- After a comma of a call's list, tokens with which the list goes on up to another comma.
-pub record ListsOn (call : Listed) (marks : List Mark) (more : Listed) (following : List Mark) : Type 0 where
+pub record ListsOn (call : OpenCall) (marks : List Mark) (more : OpenCall) (following : List Mark) : Type 0 where
   pub same : (p : Position) (started : StartedLine) → GoesOn (OnLine p (Listing started call AtNext)) marks (OnLine p (Listing started more AtNext)) following
 
 -- After a comma of a call's list, tokens with which the list and its line end.
-pub record ListEnds (call : Listed) (marks : List Mark) (all : Listed) (following : List Mark) : Type 0 where
+pub record ListEnds (call : OpenCall) (marks : List Mark) (all : OpenCall) (following : List Mark) : Type 0 where
   pub same : (p : Position) (started : StartedLine)
       → GoesOn (OnLine p (Listing started call AtNext)) marks
       (AtLine (after_line p (Instructs started.label started.line (Call all.condition all.instance all.arguments)))) following
@@ -59,15 +59,15 @@ TakesList old tokens n new = 0 < n → ListEnds (listed_view old) (marks_of toke
 
 -- The three are an argument, which a comma or the list's end may follow.
 pub record IsArgument (input assign operand : Mark) (argument : Assignment) : Type 0 where
-  pub goes_on : (call : Listed) (comma : ℕ) (following : List Mark)
+  pub goes_on : (call : OpenCall) (comma : ℕ) (following : List Mark)
       → ListsOn call (input ∷ assign ∷ operand ∷ record { symbol = Comma; line = comma } ∷ following) (with_argument call (formal_of argument) argument.actual) following
-  pub ends : (call : Listed) (close end : ℕ) (following : List Mark)
+  pub ends : (call : OpenCall) (close end : ℕ) (following : List Mark)
       → ListEnds call (input ∷ assign ∷ operand ∷ record { symbol = ClosingBracket; line = close } ∷ record { symbol = LineEnd; line = end } ∷ following)
       (with_argument call (formal_of argument) argument.actual) following
 
 -- At the start of a line the four begin this call's list, whose first input is read as one after a
 -- comma is.
-pub record BeginsCall (p : Position) (operator instance opening input : Mark) (call : Listed) : Type 0 where
+pub record BeginsCall (p : Position) (operator instance opening input : Mark) (call : OpenCall) : Type 0 where
   pub same : (following : List Mark)
       → GoesOn (AtLine p) (operator ∷ instance ∷ opening ∷ input ∷ following) (OnLine p (Listing (record { label = None; line = operator.line }) call AtNext)) (input ∷ following)
 

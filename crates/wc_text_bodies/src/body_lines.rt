@@ -12,7 +12,7 @@ use std::alloc::{AllocError, Global};
 use wc_lexer::{Shape, Token};
 use wc_model::{Operand, Value};
 use wc_text_lines::{
-    Listed, Operation, StartedLine, Step, ends_unit, operation_named, truth, word,
+    OpenCall, Operation, StartedLine, Step, ends_unit, operation_named, truth, word,
 };
 
 /// The operand that the token is by itself.
@@ -44,7 +44,7 @@ fn step_with<'a>(alloc: Global, operation: Operation, token: Token<'a>) -> Optio
     match (operation, token.shape) {
         (Operation::Operates(operating), _) => Some(Step::Operate(operating, operand_of(token)?)),
         (Operation::Jumps(when), Shape::Identifier) => Some(Step::Jump(when, word(token))),
-        (Operation::Calls(condition), Shape::Identifier) => Some(Step::Call(Listed {
+        (Operation::Calls(condition), Shape::Identifier) => Some(Step::Call(OpenCall {
             condition,
             instance: word(token),
             arguments: Vec::new(alloc),

@@ -13,7 +13,7 @@ use crate::body_lines::{operand_of, operation_at, take_line};
 use std::alloc::{AllocError, Global};
 use wc_lexer::{Shape, Token};
 use wc_model::{Argument, Direction};
-use wc_text_lines::{Listed, Operation, StartedLine, Step, word};
+use wc_text_lines::{OpenCall, Operation, StartedLine, Step, word};
 
 /// Which way a value goes by the sign between a formal and an actual parameter.
 fn direction_of(sign: Token<'_>) -> Option<Direction>
@@ -45,7 +45,7 @@ fn argument_of<'a>(name: Token<'a>, sign: Token<'a>, operand: Token<'a>) -> Opti
 }
 
 /// Adds an argument after a call's others.
-fn add_argument<'a>(call: &mut Listed<'a>, argument: Argument<'a>) -> Result<(), AllocError>
+fn add_argument<'a>(call: &mut OpenCall<'a>, argument: Argument<'a>) -> Result<(), AllocError>
     ensures { OnOk result
         (listed_view call.new
         ≡ lines.with_argument (listed_view call.old)
@@ -58,7 +58,7 @@ fn add_argument<'a>(call: &mut Listed<'a>, argument: Argument<'a>) -> Result<(),
 
 /// Reads an argument and the comma after it, and returns the number of their tokens: none if they
 /// are not here.
-fn take_argument<'a>(call: &mut Listed<'a>, tokens: &[Token<'a>]) -> Result<usize, AllocError>
+fn take_argument<'a>(call: &mut OpenCall<'a>, tokens: &[Token<'a>]) -> Result<usize, AllocError>
     ensures goes_on { IfOk result (λ taken. TakesArguments call.old tokens.now taken call.new) }
     ensures within { IfOk result (λ taken. taken ≤ length tokens.now) }
 {
@@ -76,7 +76,7 @@ fn take_argument<'a>(call: &mut Listed<'a>, tokens: &[Token<'a>]) -> Result<usiz
 }
 
 /// Reads the arguments that commas follow, and returns the number of their tokens.
-fn take_arguments<'a>(call: &mut Listed<'a>, tokens: &[Token<'a>]) -> Result<usize, AllocError>
+fn take_arguments<'a>(call: &mut OpenCall<'a>, tokens: &[Token<'a>]) -> Result<usize, AllocError>
     ensures goes_on { IfOk result (λ taken. TakesArguments call.old tokens.now taken call.new) }
     ensures within { IfOk result (λ taken. taken ≤ length tokens.now) }
 {
@@ -94,7 +94,7 @@ fn take_arguments<'a>(call: &mut Listed<'a>, tokens: &[Token<'a>]) -> Result<usi
 
 /// Reads the last argument with the list's end and the line's, and returns the number of their
 /// tokens: none if they are not here.
-fn take_last<'a>(call: &mut Listed<'a>, tokens: &[Token<'a>]) -> Result<usize, AllocError>
+fn take_last<'a>(call: &mut OpenCall<'a>, tokens: &[Token<'a>]) -> Result<usize, AllocError>
     ensures ends { IfOk result (λ taken. TakesList call.old tokens.now taken call.new) }
     ensures within { IfOk result (λ taken. taken ≤ length tokens.now) }
 {
@@ -113,7 +113,7 @@ fn take_last<'a>(call: &mut Listed<'a>, tokens: &[Token<'a>]) -> Result<usize, A
 
 /// Reads a call's arguments with the list's end and the line's, and returns the number of their
 /// tokens: none if no such list is here.
-fn take_list<'a>(call: &mut Listed<'a>, tokens: &[Token<'a>]) -> Result<usize, AllocError>
+fn take_list<'a>(call: &mut OpenCall<'a>, tokens: &[Token<'a>]) -> Result<usize, AllocError>
     ensures ends { IfOk result (λ taken. TakesList call.old tokens.now taken call.new) }
     ensures within { IfOk result (λ taken. taken ≤ length tokens.now) }
 {
@@ -132,7 +132,7 @@ fn call_at<'a>(
     instance: Token<'a>,
     opening: Token<'a>,
     input: Token<'a>,
-) -> Option<Listed<'a>>
+) -> Option<OpenCall<'a>>
     requires { IsCounted body.now }
     ensures { IfSome result
         (λ call. (units : List ProgramUnit)
@@ -143,7 +143,7 @@ fn call_at<'a>(
     match (operator.shape, instance.shape, opening.shape, input.shape) {
         (Shape::Identifier, Shape::Identifier, Shape::Opening, Shape::Identifier) => {
             match operation_at(body, operator.text)? {
-                Operation::Calls(condition) => Some(Listed {
+                Operation::Calls(condition) => Some(OpenCall {
                     condition,
                     instance: word(instance),
                     arguments: Vec::new(alloc),

@@ -12,11 +12,11 @@ use crate::bodies::{Body, Opening, has_content, innermost, is_full};
 use wc_lexer::{Shape, Token};
 use wc_model::{Fault, MOST_DEPTH, UnitKind};
 use wc_text_lines::{
-    InLine, LineState, Operating, StartedLine, ends_unit, is_transfer, operation_of,
+    InLine, LineState, OperandOperator, StartedLine, ends_unit, is_transfer, operation_of,
 };
 
 /// The refusal of that number on that line.
-pub(crate) fn refused(number: u16, place: u32) -> Fault
+pub(crate) fn refusal(number: u16, place: u32) -> Fault
     ensures { result ≡ Fault.Refused number place }
 {
     Fault::Refused { number, place }
@@ -27,7 +27,7 @@ fn refused_if(test: bool, number: u16, place: u32) -> Option<Fault>
     ensures { result ≡ (if test then Some (Fault.Refused number place) else None) }
 {
     if test {
-        Some(refused(number, place))
+        Some(refusal(number, place))
     } else {
         None
     }
@@ -47,10 +47,10 @@ fn closing_fault(body: &Body, line: u32) -> Option<Fault>
             if has_content(opening, &body.done) {
                 refused_if(is_full(body), 208, line)
             } else {
-                Some(refused(204, line))
+                Some(refusal(204, line))
             }
         }
-        None => Some(refused(206, line)),
+        None => Some(refusal(206, line)),
     }
 }
 
@@ -121,11 +121,11 @@ fn inside_fault(body: &Body, open_line: u32, token: Token, colon: bool) -> Optio
         (symbol_view token.entry) token.entry.line colon) }
 {
     if begins_transfer(token) {
-        Some(refused(205, token.line))
+        Some(refusal(205, token.line))
     } else if begins_label(token, colon) {
-        Some(refused(205, token.line))
+        Some(refusal(205, token.line))
     } else if is_end_word(token, body.unit.kind) {
-        Some(refused(206, open_line))
+        Some(refusal(206, open_line))
     } else {
         operator_fault(body, token, colon)
     }
@@ -205,7 +205,7 @@ fn in_line_fault<'a>(
 {
     match state {
         InLine::Operated(operating) => match operating {
-            Operating::Applies(_) => match token.shape {
+            OperandOperator::Applies(_) => match token.shape {
                 Shape::Opening => depth_fault(&body.openings, started.line),
                 _ => None,
             },

@@ -5,7 +5,7 @@ ghost use Rattle.wc_text_lines.specs.LineViews.{started_view, in_line_view, line
 ghost use Rattle.wc_text_bodies.specs.Views.{fault_of, position_view, openings_view};
 
 use crate::bodies::{Body, innermost};
-use crate::line_faults::refused;
+use crate::line_faults::refusal;
 use wc_model::Fault;
 use wc_text_lines::{InLine, LineShape, LineState, OperandOf, StartedLine};
 
@@ -16,8 +16,8 @@ pub fn open_in(body: &Body) -> Fault
         (moves.open_in (unit_view body.now.unit) (openings_view [] body.now.openings.items)) }
 {
     match innermost(&body.openings) {
-        Some(opening) => refused(206, opening.started.line),
-        None => refused(202, body.unit.line),
+        Some(opening) => refusal(206, opening.started.line),
+        None => refusal(202, body.unit.line),
     }
 }
 
@@ -31,11 +31,11 @@ fn open_in_line<'a>(body: &Body<'a>, started: &StartedLine<'a>, state: &InLine<'
 {
     match state {
         InLine::Formed(line_shape, false) => match line_shape {
-            LineShape::Opens(..) => refused(206, started.line),
+            LineShape::Opens(..) => refusal(206, started.line),
             LineShape::Instructs(_) => open_in(body),
         },
         InLine::Named(owner, _, _) => match owner {
-            OperandOf::OfOpening(_) => refused(206, started.line),
+            OperandOf::OfOpening(_) => refusal(206, started.line),
             _ => open_in(body),
         },
         _ => open_in(body),

@@ -7,7 +7,7 @@ ghost use Rattle.wc_text_lines.specs.Words.{operating_view};
 
 use std::alloc::Global;
 use wc_model::{Instr, Line, Operand, Operator, Word};
-use wc_text_lines::{Listed, Operating, StartedLine, Step};
+use wc_text_lines::{OpenCall, OperandOperator, StartedLine, Step};
 
 /// The line of a label alone.
 #[inline(always)]
@@ -32,14 +32,14 @@ fn line_with<'a>(label: Option<Word<'a>>, instr: Instr<'a>) -> Line<'a>
 }
 
 /// The line of a call.
-fn call_line<'a>(label: Option<Word<'a>>, call: Listed<'a>, line: u32) -> Line<'a>
+fn call_line<'a>(label: Option<Word<'a>>, call: OpenCall<'a>, line: u32) -> Line<'a>
     ensures { (rest : Lines)
         → line_view result rest
         ≡ tree.Plain (option_map word_view label.entry) line
         (tree.Call call.entry.condition (name_view call.entry.instance)
         (map assignment_view call.entry.arguments.items)) rest }
 {
-    let Listed {
+    let OpenCall {
         condition,
         instance,
         arguments,
@@ -59,7 +59,7 @@ fn call_line<'a>(label: Option<Word<'a>>, call: Listed<'a>, line: u32) -> Line<'
 fn operated_line<'a>(
     label: Option<Word<'a>>,
     line: u32,
-    operating: Operating,
+    operating: OperandOperator,
     operand: Operand<'a>,
 ) -> Line<'a>
     ensures { (rest : Lines)
@@ -68,17 +68,17 @@ fn operated_line<'a>(
         (step_of (operating_view operating) (term_view operand.entry)) rest }
 {
     let instr = match operating {
-        Operating::Loads(negated) => Instr::Load {
+        OperandOperator::Loads(negated) => Instr::Load {
             negated,
             operand,
             line,
         },
-        Operating::Stores(storing) => Instr::Store {
+        OperandOperator::Stores(storing) => Instr::Store {
             storing,
             target: operand,
             line,
         },
-        Operating::Applies(operator) => Instr::Apply {
+        OperandOperator::Applies(operator) => Instr::Apply {
             operator,
             operand,
             line,

@@ -6,8 +6,8 @@ use Rattle.wc_text_flat.proofs.CallLines.{answer_given, lowered_after, call_foll
 use Rattle.wc_text_flat.proofs.Counts.{counted_none, counted_twice, passed_over, ended_over}
 use Rattle.wc_text_flat.proofs.Lines.{operand_number, operand_read, load_follows, load_negated_follows, store_follows, apply_follows, not_follows}
 use Rattle.wc_text_flat.proofs.Sides.{Sides, flat, BodyFollows, AreAlike, state_of, then_counted, OnwardFollows, line_onward, IsCourse, result_in, EffectFollows, onward_effect, by_choice}
-use Rattle.wc_text_flat.proofs.Values.{value_number, ReadsAs, combined_follows, acts_follow}
-use Rattle.wc_text_flat.specs.{AreContents, State, Flow, Skips, Ended, Moved, Ran, goes_on, opens, turns, line_runs, counted, followed, ended, runs, Operand, Number, At, load_line, apply_line, short_line, IsStepLowered, IsOpening, step_length, flat_length, lines_ahead, IsLowered, given, combined, acts}
+use Rattle.wc_text_flat.proofs.Values.{value_number, ReadsAs, apply_number_follows, acts_follow}
+use Rattle.wc_text_flat.specs.{AreContents, State, Flow, Skips, Ended, LineResult, Ran, goes_on, opens, turns, line_runs, counted, followed, ended, runs, Operand, Number, At, load_line, apply_line, short_line, IsStepLowered, IsOpening, step_length, flat_length, lines_ahead, IsLowered, given, apply_number, acts}
 use Rattle.wc_model.specs.Definitions.{depth, Outcome, Done, Stuck, Mode, Running, Seeking, Returned, Effect, Goes, Fails, carries, arriving, after, continued, from_value, value_of, step_effect, line_effect, closed, nested_effect, means, Name, apply, Reason, Scope, Store, At as AtLine}
 use Rattle.wc_model.specs.Language.Meaning as meaning
 use Rattle.wc_model.specs.Language.Tree.{Word, Term, Step, Load, Store as StoreStep, Apply, Negate, Jump, Call, Return, Lines, End, Alone, Plain, Nested}
@@ -69,14 +69,14 @@ opened_by put_by numbers outer inner l = ap (λ (b : Bool). if b then goes_on (r
 pub closing_follows : (w : Sides) (opening : Code) (inner : List Code) (number close : ℕ) (operator : Operator) (outer : Value) (start : Option Value) (put_by numbers : List ℤ) → line_runs (flat w) (state_of (Some outer) put_by numbers) opening ≡ goes_on (state_of start (value_number outer ∷ put_by) numbers) → (o : Outcome) → InsideFollows w inner start (value_number outer ∷ put_by) numbers o → OnwardFollows w (opening ∷ inner ++ Close operator ∷ []) put_by (state_of (Some outer) put_by numbers) (closed number operator close outer o)
 closing_follows w opening inner number close operator outer start put_by numbers runs_so (Stuck reason) h = tt
 closing_follows w opening inner number close operator outer start put_by numbers runs_so (Done None new trace) h = tt
-closing_follows w opening inner number close operator outer start put_by numbers runs_so (Done (Some value) new trace) h = step (apply operator outer value) (combined_follows operator outer value)
+closing_follows w opening inner number close operator outer start put_by numbers runs_so (Done (Some value) new trace) h = step (apply operator outer value) (apply_number_follows operator outer value)
   where
-    step : (r : Result Value Reason) → ReadsAs r (combined operator (value_number outer) (value_number value)) → OnwardFollows w (opening ∷ inner ++ Close operator ∷ []) put_by (state_of (Some outer) put_by numbers) (from_value r (λ result. Goes (Running (Some result)) new (AtLine number ∷ trace ++ AtLine close ∷ [])))
+    step : (r : Result Value Reason) → ReadsAs r (apply_number operator (value_number outer) (value_number value)) → OnwardFollows w (opening ∷ inner ++ Close operator ∷ []) put_by (state_of (Some outer) put_by numbers) (from_value r (λ result. Goes (Running (Some result)) new (AtLine number ∷ trace ++ AtLine close ∷ [])))
     step (Err reason) e = tt
     step (Ok result) e = (
       h.0,
       h.1,
-      λ others. ap (λ (m : Option Moved). followed m (runs (flat w) ((inner ++ Close operator ∷ []) ++ others))) runs_so
+      λ others. ap (λ (m : Option LineResult). followed m (runs (flat w) ((inner ++ Close operator ∷ []) ++ others))) runs_so
           ∙ (ap (λ (code : List Code). then_counted 1 (runs (flat w) code (Skips 0) (state_of start (value_number outer ∷ put_by) numbers))) (append_assoc inner (Close operator ∷ []) others)
           ∙ (ap (then_counted 1) (h.2 (Close operator ∷ others))
           ∙ (ap (λ (m : Option ℤ). then_counted 1 (then_counted (length trace) (followed (given m (λ n. goes_on (record { result = Some n; put_by = put_by; numbers = h.0 }))) (runs (flat w) others)))) e
@@ -263,7 +263,7 @@ turning_follows w rest line number put_by store numbers contents result conditio
   where
     turned : (b : Bool) → meaning.acts condition result ≡ Ok b → (others : List Code) → runs (flat w) (line ∷ others) (Skips 0) (state_of result put_by numbers) ≡ then_counted 1 (runs (flat w) others (elim b as (λ x. Flow) [ true ↦ there | false ↦ Skips 0 ]) (state_of result put_by numbers))
     turned b e others =
-        ap (λ (m : Option Moved). followed m (runs (flat w) others))
+        ap (λ (m : Option LineResult). followed m (runs (flat w) others))
         (runs_so ∙ ap (λ (x : Option Bool). turns (state_of result put_by numbers) x there (Skips 0)) (answer_given (meaning.acts condition result) (acts condition (option_map value_number result)) b (acts_follow condition result) e))
 
 -- each step that is executed

@@ -6,8 +6,8 @@ use Rattle.wc_text_flat.proofs.Bodies.{stays, opened_by, simple_stays, deeper as
 use Rattle.wc_text_flat.proofs.CallLines.{answer_given}
 use Rattle.wc_text_flat.proofs.Lines.{operand_number, operand_read, load_follows, load_negated_follows, store_follows, apply_follows, not_follows}
 use Rattle.wc_text_flat.proofs.Sides.{Sides, flat, state_of, IsCourse, result_in, by_choice}
-use Rattle.wc_text_flat.proofs.Values.{value_number, ReadsAs, combined_follows, acts_follow}
-use Rattle.wc_text_flat.specs.{AreContents, State, Flow, Skips, Ended, goes_on, opens, turns, line_runs, step_sources, sources_of, Operand, Number, At as AtPlace, load_line, apply_line, short_line, IsStepLowered, IsOpening, step_length, flat_length, IsLowered, given, combined, acts}
+use Rattle.wc_text_flat.proofs.Values.{value_number, ReadsAs, apply_number_follows, acts_follow}
+use Rattle.wc_text_flat.specs.{AreContents, State, Flow, Skips, Ended, goes_on, opens, turns, line_runs, step_sources, sources_of, Operand, Number, At as AtPlace, load_line, apply_line, short_line, IsStepLowered, IsOpening, step_length, flat_length, IsLowered, given, apply_number, acts}
 use Rattle.wc_model.specs.Definitions.{depth, Outcome, Done, Stuck, Mode, Running, Seeking, Returned, Effect, Goes, Fails, arriving, after, continued, from_value, value_of, step_effect, line_effect, closed, nested_effect, means, Name, apply, Reason, Store, At as AtLine}
 use Rattle.wc_model.specs.Language.Meaning as meaning
 use Rattle.wc_model.specs.Language.Tree.{Term, Step, Load, Store as StoreStep, Apply, Negate, Jump, Call, Return, Lines, End, Alone, Plain, Nested}
@@ -70,12 +70,12 @@ InsideSeen w flats sources code start put_by numbers (Stuck reason) seen = Unit 
 pub closing_seen : (w : Sides) (flats : FlatSeenCalls) (opening : Code) (sources : List ℕ) (inner : List Code) (number close : ℕ) (operator : Operator) (outer : Value) (start : Option Value) (put_by : List ℤ) (store : Store) (numbers : List ℤ) → AreContents w.frame store numbers → is_body_line opening ≡ true → line_runs (flat w) (state_of (Some outer) put_by numbers) opening ≡ goes_on (state_of start (value_number outer ∷ put_by) numbers) → (o : Outcome) (seen : List Seen) → InsideSeen w flats sources inner start (value_number outer ∷ put_by) numbers o seen → OnwardSeen w flats (number ∷ sources ++ close ∷ []) (opening ∷ inner ++ Close operator ∷ []) put_by (state_of (Some outer) put_by numbers) (closed number operator close outer o) (seen_at (AtLine number) start store ∷ seen ++ seen_effect close (closed number operator close outer o))
 closing_seen w flats opening sources inner number close operator outer start put_by store numbers contents own runs_so (Stuck reason) seen h = tt
 closing_seen w flats opening sources inner number close operator outer start put_by store numbers contents own runs_so (Done None new trace) seen h = tt
-closing_seen w flats opening sources inner number close operator outer start put_by store numbers contents own runs_so (Done (Some value) new trace) seen h = step (apply operator outer value) (combined_follows operator outer value)
+closing_seen w flats opening sources inner number close operator outer start put_by store numbers contents own runs_so (Done (Some value) new trace) seen h = step (apply operator outer value) (apply_number_follows operator outer value)
   where
     effect : Result Value Reason → Effect
     effect r = from_value r (λ result. Goes (Running (Some result)) new (AtLine number ∷ trace ++ AtLine close ∷ []))
 
-    step : (r : Result Value Reason) → ReadsAs r (combined operator (value_number outer) (value_number value)) → OnwardSeen w flats (number ∷ sources ++ close ∷ []) (opening ∷ inner ++ Close operator ∷ []) put_by (state_of (Some outer) put_by numbers) (effect r) (seen_at (AtLine number) start store ∷ seen ++ seen_effect close (effect r))
+    step : (r : Result Value Reason) → ReadsAs r (apply_number operator (value_number outer) (value_number value)) → OnwardSeen w flats (number ∷ sources ++ close ∷ []) (opening ∷ inner ++ Close operator ∷ []) put_by (state_of (Some outer) put_by numbers) (effect r) (seen_at (AtLine number) start store ∷ seen ++ seen_effect close (effect r))
     step (Err reason) e = tt
     step (Ok result) e = (
       h.0,

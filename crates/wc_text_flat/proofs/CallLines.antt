@@ -8,7 +8,7 @@ use Rattle.wc_text_flat.proofs.InstancePlaces.{path_from, path_number, no_direct
 use Rattle.wc_text_flat.proofs.Lines.{operand_number, operand_read, truth_operand, WritesAs, write_follows, target_follows}
 use Rattle.wc_text_flat.proofs.Sides.{Sides, flat, IsBased, BodyFollows, AreAlike, state_of, then_counted, OnwardFollows, by_choice}
 use Rattle.wc_text_flat.proofs.Values.{value_number, ReadsAs, AnswersAs, acts_follow}
-use Rattle.wc_text_flat.specs.{AreContents, State, Skips, Moved, Ran, goes_on, with_all, writes, turns, returns, line_runs, followed, runs, Operand, Number, At, IsOperand, argument_line, IsArgument, IsOutput, AreEach, AreArguments, AreOutputs, IsCallLowered, IsUnitBody, IsBodyOf, first_place, block_called, given, acts}
+use Rattle.wc_text_flat.specs.{AreContents, State, Skips, LineResult, Ran, goes_on, with_all, writes, turns, returns, line_runs, followed, runs, Operand, Number, At, IsOperand, argument_line, IsArgument, IsOutput, AreEach, AreArguments, AreOutputs, IsCallLowered, IsUnitBody, IsBodyOf, first_place, block_called, given, acts}
 use Rattle.wc_laws_language.proofs.Longest.{trace_length}
 use Rattle.wc_model.specs.Definitions.{standard_called, VariableType, Elementary, Standard, Block, Member, members_of, is_block, block_named, same_name, place_number, slot_kinds, Outcome, Done, Stuck, Effect, Goes, Fails, Running, value_of, from_store, input_kind, argument_term, assigned_input, assigned_one, assigned, given_one, given_out, written_to, call_trace, body_outcome, made, called_type, call_effect, step_effect, Name, Reason, NoSuchPlace, Scope, type_of, writable_place, within, Location, Direct, Path, Content, Store, written, variable_places, block_places, unit_places, program_frame, At as AtLine, StandardBody, Called, Assignment, goes_in, inputs_of, outputs_of, Term, Field, Call, ProgramUnit}
 use Rattle.wc_model.specs.Language.Meaning as meaning
@@ -49,7 +49,7 @@ argument_follows w alike result put_by store numbers contents members instance a
     by_value : (r : Result Value Reason) → ReadsAs r (operand_number w numbers is.0) → WritesAs w state (elim r as (λ x. Result Store Reason) [ Ok value ↦ written store (Path (w.here.instance ++ instance ∷ argument.formal ∷ [])) value | Err reason ↦ Err reason ]) (line_runs (flat w) state line)
     by_value (Err reason) e = tt
     by_value (Ok value) e =
-        subst (λ (o : Option Moved). WritesAs w state (written store (Path (w.here.instance ++ instance ∷ argument.formal ∷ [])) value) o)
+        subst (λ (o : Option LineResult). WritesAs w state (written store (Path (w.here.instance ++ instance ∷ argument.formal ∷ [])) value) o)
         (sym (ap (line_runs (flat w) state) is.4 ∙ (runs_so is.0 ∙ ap (λ (x : Option ℤ). given x (λ n. writes (flat w) state target n)) e)))
         (written_there value)
 
@@ -74,7 +74,7 @@ moved_on w result put_by numbers line lines count all more (Ok new) rest h onwar
     first after e (Ok last) h = (
       h.0,
       h.1,
-      λ others. ap (λ (m : Option Moved). followed m (runs (flat w) (lines ++ others))) e
+      λ others. ap (λ (m : Option LineResult). followed m (runs (flat w) (lines ++ others))) e
           ∙ (ap (then_counted 1) (h.2 others)
           ∙ (counted_twice 1 count (runs (flat w) others (Skips 0) (state_of result put_by h.0))
           ∙ ap (λ n. then_counted n (runs (flat w) others (Skips 0) (state_of result put_by h.0))) more)),
@@ -112,7 +112,7 @@ output_follows w alike result put_by store numbers contents instance output line
     by_value : (r : Result Value Reason) → ReadsAs r (operand_number w numbers is.0) → WritesAs w state (elim r as (λ x. Result Store Reason) [ Ok value ↦ written_to w.here store output.actual value | Err reason ↦ Err reason ]) (line_runs (flat w) state line)
     by_value (Err reason) e = tt
     by_value (Ok value) e =
-        subst (λ (o : Option Moved). WritesAs w state (written_to w.here store output.actual value) o)
+        subst (λ (o : Option LineResult). WritesAs w state (written_to w.here store output.actual value) o)
         (sym (ap (line_runs (flat w) state) is.4 ∙ (runs_so is.0 ∙ ap (λ (x : Option ℤ). given x (λ n. writes (flat w) state target n)) e)))
         (target_follows w alike store numbers contents state refl (writable_place w.here.scope output.actual) target is.3 value)
 
@@ -261,7 +261,7 @@ made_follows w own_line body lines given number instance arguments result put_by
     by_store (Ok last) k = (
       k.0,
       k.1,
-      λ others. ap (λ (m : Option Moved). followed m (runs (flat w) ((lines ++ body ∷ given) ++ others))) acting
+      λ others. ap (λ (m : Option LineResult). followed m (runs (flat w) ((lines ++ body ∷ given) ++ others))) acting
           ∙ (ap (λ (code : List Code). then_counted 1 (runs (flat w) code (Skips 0) (state_of result put_by numbers))) (append_assoc lines (body ∷ given) others)
           ∙ (ap (then_counted 1) (assigned_so (body ∷ given ++ others))
           ∙ (ap (λ (o : Option Ran). then_counted 1 (then_counted (length (inputs_of arguments)) o)) (h.2 (given ++ others))

@@ -5,8 +5,8 @@ use Rattle.wc_model.specs.Language.Tree.{Term, Assignment, inputs_of, outputs_of
 use Rattle.wc_model.specs.declared.image.Image.{Image}
 use Rattle.wc_model.specs.declared.operator.Condition.{Condition}
 use Rattle.wc_model.specs.declared.operator.Operator.{Operator}
-use Rattle.wc_model.specs.declared.operator.Storing.{Storing}
-use Rattle.wc_model.specs.declared.operator.Storing.TheVariants.{Result as StoreResult, Negation, Set, Reset}
+use Rattle.wc_model.specs.declared.operator.StoreKind.{StoreKind}
+use Rattle.wc_model.specs.declared.operator.StoreKind.TheVariants.{Result as StoreResult, Negation, Set, Reset}
 use Rattle.wc_model.specs.declared.value.Value.{Value}
 use Rattle.wc_model.specs.declared.value.Value.TheVariants.{Bool as Truth, Dint, Time}
 use Rattle.wc_text_flat.specs.SeenLaws.{HasItems}
@@ -58,7 +58,7 @@ one_set here line store target b (Truth false) = refl
 one_set here line store target b (Dint n) = tt
 one_set here line store target b (Time t) = tt
 
-one_store : (here : Context) (line : ℕ) (store : Store) (storing : Storing) (target : Term) (result : Value) → IsOne line (store_effect here line store storing target result)
+one_store : (here : Context) (line : ℕ) (store : Store) (storing : StoreKind) (target : Term) (result : Value) → IsOne line (store_effect here line store storing target result)
 one_store here line store StoreResult target result = one_stored here line store target result result
 one_store here line store Negation target result = one_from_value line (negated result) _ (λ value. one_stored here line store target value result)
 one_store here line store Set target result = one_set here line store target true result

@@ -4,8 +4,8 @@ use Rattle.std.specs.Option.{option_map}
 use Rattle.std.specs.Prelude.{slice_get, slice_set, if◌then◌else◌}
 use Rattle.wc_text_flat.proofs.PlaceNumbers.{write_both}
 use Rattle.wc_text_flat.proofs.Sides.{Sides, flat, AreAlike, state_of, LineFollows}
-use Rattle.wc_text_flat.proofs.Values.{value_number, ReadsAs, combined_follows, flipped_follows}
-use Rattle.wc_text_flat.specs.{AreContents, State, Moved, goes_on, with_result, with_all, is_named, kind_at, may_hold, number_held, overwrites, writes, loads, applies, line_runs, Operand, Number, At, IsPlaceOf, IsOperand, load_line, apply_line, given, flipped, combined}
+use Rattle.wc_text_flat.proofs.Values.{value_number, ReadsAs, apply_number_follows, negated_number_follows}
+use Rattle.wc_text_flat.specs.{AreContents, State, LineResult, goes_on, with_result, with_all, is_named, kind_at, may_hold, number_held, overwrites, writes, loads, applies, line_runs, Operand, Number, At, IsPlaceOf, IsOperand, load_line, apply_line, given, negated_number, apply_number}
 use Rattle.wc_model.specs.Definitions.{content_number, place_number, slot_kind_of, slot_kinds, Goes, Running, as_truth, takes_truth, alongside, value_of, written_to, from_value, from_store, next, store_effect, step_effect, apply, negated, Reason, NoSuchPlace, WrongKind, Scope, readable_place, writable_place, within, At as AtLine}
 use Rattle.wc_model.specs.Language.Meaning as meaning
 use Rattle.wc_model.specs.Language.Store.{Location, Content, Plain, Moment, Phase, Store, with_content, value_at, same_kind, written}
@@ -14,8 +14,8 @@ use Rattle.wc_model.specs.declared.code.Code.{Code}
 use Rattle.wc_model.specs.declared.code.Code.TheVariants.{Store as StoreLine, Not}
 use Rattle.wc_model.specs.declared.kind.SlotKind.{SlotKind}
 use Rattle.wc_model.specs.declared.operator.Operator.{Operator}
-use Rattle.wc_model.specs.declared.operator.Storing.{Storing}
-use Rattle.wc_model.specs.declared.operator.Storing.TheVariants.{Result as StoreResult, Negation, Set, Reset}
+use Rattle.wc_model.specs.declared.operator.StoreKind.{StoreKind}
+use Rattle.wc_model.specs.declared.operator.StoreKind.TheVariants.{Result as StoreResult, Negation, Set, Reset}
 use Rattle.wc_model.specs.declared.place.Place.{Place}
 use Rattle.wc_model.specs.declared.value.Value.{Value}
 use Rattle.wc_model.specs.declared.value.Value.TheVariants.{Bool as Truth, Dint, Time}
@@ -111,7 +111,7 @@ load_negated_follows w alike put_by number store numbers contents result term op
     step o (Err reason) e = tt
     step (Number n) (Ok value) e = literal n value e
     step (At place) (Ok value) e =
-        next_follows w (load_line true (At place)) put_by number store numbers contents result (negated value) (flipped (value_number value)) (flipped_follows value)
+        next_follows w (load_line true (At place)) put_by number store numbers contents result (negated value) (negated_number (value_number value)) (negated_number_follows value)
         (ap (λ x. given x (λ n. loads (state_of result put_by numbers) true n)) e)
 
 -- an operator with its operand
@@ -126,17 +126,17 @@ apply_follows w alike put_by number store numbers contents (Some a) operator ter
     step : (r : Result Value Reason) → ReadsAs r (operand_number w numbers operand) → LineFollows w (apply_line operator operand) put_by (state_of (Some a) put_by numbers) (from_value r (λ b. from_value (apply operator a b) (next number store)))
     step (Err reason) e = tt
     step (Ok b) e =
-        next_follows w (apply_line operator operand) put_by number store numbers contents (Some a) (apply operator a b) (combined operator (value_number a) (value_number b)) (combined_follows operator a b)
+        next_follows w (apply_line operator operand) put_by number store numbers contents (Some a) (apply operator a b) (apply_number operator (value_number a) (value_number b)) (apply_number_follows operator a b)
         (line operand ∙ ap (λ x. given x (λ n. applies (state_of (Some a) put_by numbers) operator n)) e)
 
 -- NOT
 pub not_follows : (w : Sides) (put_by : List ℤ) (number : ℕ) (store : Store) (numbers : List ℤ) → AreContents w.frame store numbers → (result : Option Value) → LineFollows w Not put_by (state_of result put_by numbers) (step_effect w.here number Negate result store)
 not_follows w put_by number store numbers contents None = tt
 not_follows w put_by number store numbers contents (Some value) =
-    next_follows w Not put_by number store numbers contents (Some value) (negated value) (flipped (value_number value)) (flipped_follows value) refl
+    next_follows w Not put_by number store numbers contents (Some value) (negated value) (negated_number (value_number value)) (negated_number_follows value) refl
 
 -- if a store is written, its numbers are
-abbrev pub WritesAs : Sides → State → Result Store Reason → Option Moved → Type 0
+abbrev pub WritesAs : Sides → State → Result Store Reason → Option LineResult → Type 0
 WritesAs w state (Ok new) o = (numbers : List ℤ) × AreContents w.frame new numbers × (o ≡ goes_on (with_all state numbers))
 WritesAs w state (Err reason) o = Unit {0}
 
@@ -191,18 +191,18 @@ target_follows w alike store numbers contents state same (Some location) place i
     write_follows w store numbers contents state same (within w.here.instance location) place (alike.based location place.0 is) value
 
 -- ST, STN, S, R
-pub stored_follows : (w : Sides) (line : Code) (put_by : List ℤ) (number : ℕ) (numbers : List ℤ) (result : Value) (r : Result Store Reason) (o : Option Moved) → WritesAs w (state_of (Some result) put_by numbers) r o → line_runs (flat w) (state_of (Some result) put_by numbers) line ≡ o → LineFollows w line put_by (state_of (Some result) put_by numbers) (from_store r (λ new. Goes (Running (Some result)) new (AtLine number ∷ [])))
+pub stored_follows : (w : Sides) (line : Code) (put_by : List ℤ) (number : ℕ) (numbers : List ℤ) (result : Value) (r : Result Store Reason) (o : Option LineResult) → WritesAs w (state_of (Some result) put_by numbers) r o → line_runs (flat w) (state_of (Some result) put_by numbers) line ≡ o → LineFollows w line put_by (state_of (Some result) put_by numbers) (from_store r (λ new. Goes (Running (Some result)) new (AtLine number ∷ [])))
 stored_follows w line put_by number numbers result (Ok new) o h e = (h.0, h.1, refl, e ∙ h.2)
 stored_follows w line put_by number numbers result (Err reason) o h e = tt
 
-pub store_follows : (w : Sides) → AreAlike w → (put_by : List ℤ) (number : ℕ) (store : Store) (numbers : List ℤ) → AreContents w.frame store numbers → (result : Option Value) (storing : Storing) (target : Term) (place : Place) → IsPlaceOf w.here.scope (writable_place w.here.scope target) place → LineFollows w (StoreLine storing place) put_by (state_of result put_by numbers) (step_effect w.here number (StoreStep storing target) result store)
+pub store_follows : (w : Sides) → AreAlike w → (put_by : List ℤ) (number : ℕ) (store : Store) (numbers : List ℤ) → AreContents w.frame store numbers → (result : Option Value) (storing : StoreKind) (target : Term) (place : Place) → IsPlaceOf w.here.scope (writable_place w.here.scope target) place → LineFollows w (StoreLine storing place) put_by (state_of result put_by numbers) (step_effect w.here number (StoreStep storing target) result store)
 store_follows w alike put_by number store numbers contents None storing target place is = tt
 store_follows w alike put_by number store numbers contents (Some result) storing target place is = by_storing storing result
   where
     writing : (result value : Value) → WritesAs w (state_of (Some result) put_by numbers) (written_to w.here store target value) (writes (flat w) (state_of (Some result) put_by numbers) place (value_number value))
     writing result value = target_follows w alike store numbers contents (state_of (Some result) put_by numbers) refl (writable_place w.here.scope target) place is value
 
-    by_storing : (s : Storing) (r : Value) → LineFollows w (StoreLine s place) put_by (state_of (Some r) put_by numbers) (store_effect w.here number store s target r)
+    by_storing : (s : StoreKind) (r : Value) → LineFollows w (StoreLine s place) put_by (state_of (Some r) put_by numbers) (store_effect w.here number store s target r)
     by_storing StoreResult r = stored_follows w (StoreLine StoreResult place) put_by number numbers r (written_to w.here store target r) (writes (flat w) (state_of (Some r) put_by numbers) place (value_number r)) (writing r r) refl
     by_storing Negation (Truth true) = stored_follows w (StoreLine Negation place) put_by number numbers (Truth true) (written_to w.here store target (Truth false)) (writes (flat w) (state_of (Some (Truth true)) put_by numbers) place (pos 0)) (writing (Truth true) (Truth false)) refl
     by_storing Negation (Truth false) = stored_follows w (StoreLine Negation place) put_by number numbers (Truth false) (written_to w.here store target (Truth true)) (writes (flat w) (state_of (Some (Truth false)) put_by numbers) place (pos 1)) (writing (Truth false) (Truth true)) refl

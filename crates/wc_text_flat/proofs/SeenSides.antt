@@ -1,7 +1,7 @@
 -- When what is seen of flat code is what is seen of the tree: the relations, and one line.
 use Rattle.std.proofs.Common.{◌≡◌, ℕ, suc, ◌+◌, true, List, [], ◌∷◌, ◌++◌, map, length, Option, Some, ℤ, refl, ap, ◌∙◌, arith}
 use Rattle.wc_text_flat.proofs.Sides.{Sides, flat, IsBased, AreAlike, state_of, LineFollows, IsCourse, result_in}
-use Rattle.wc_text_flat.specs.{AreContents, State, Flow, Skips, Ended, Moved, Here, line_runs}
+use Rattle.wc_text_flat.specs.{AreContents, State, Flow, Skips, Ended, LineResult, Here, line_runs}
 use Rattle.wc_model.specs.Definitions.{block_named, Outcome, Done, Stuck, Running, Seeking, Returned, Effect, Goes, Fails, Name, Location, Content, Store, Lines, ProgramUnit}
 use Rattle.wc_model.specs.declared.code.Code.{Code}
 use Rattle.wc_model.specs.declared.code.Code.TheVariants.{LoadNumber, LoadPlace, Store as StoreLine, ApplyNumber, ApplyPlace, Not, Open, OpenNumber, OpenPlace, Close, Jump, Return, Call, ArgumentNumber, ArgumentPlace, Standard, Body}
@@ -29,7 +29,7 @@ OnwardSeen w flats sources own put_by state (Goes (Seeking label result) store i
 OnwardSeen w flats sources own put_by state (Goes (Returned result) store items) seen = ⊥
 OnwardSeen w flats sources own put_by state (Fails reason) seen = Unit {0}
 
--- the same of an effect that may lead elsewhere, from a course on, if these lines follow
+-- what is seen of flat lines is what is seen of an effect that may lead elsewhere, from a course on, if these lines follow
 abbrev pub EffectSeen : Sides → FlatSeenCalls → Lines → List ℕ → List Code → List ℤ → Flow → State → Effect → List Seen → Type 0
 EffectSeen w flats rest sources own put_by course state (Goes mode store items) seen =
     (next : Flow) × (numbers : List ℤ) × AreContents w.frame store numbers × IsCourse rest mode next × ((fs : List FlatSeen) × AreSeenAs w.frame seen fs
@@ -104,10 +104,10 @@ body_line_runs_none (Body unit at) e = cc
 abbrev pub entry : Sides → ℕ → Code → State → State → FlatSeen
 entry w source line before following = record { depth = 0; source = source; line = line; base = w.base; written = number_written (flat w) before line; result = following.result; numbers = following.numbers }
 
-pub line_then : (w : Sides) (flats : FlatSeenCalls) (source : ℕ) (line : Code) (state : State) (moved : Moved) → IsNoBody line → line_runs (flat w) state line ≡ Some moved → (more : List ℕ) (others : List Code) → flat_seen (flat w) flats (source ∷ more) (line ∷ others) (Skips 0) state ≡ entry w source line state moved.state ∷ flat_seen (flat w) flats more others moved.course moved.state
+pub line_then : (w : Sides) (flats : FlatSeenCalls) (source : ℕ) (line : Code) (state : State) (moved : LineResult) → IsNoBody line → line_runs (flat w) state line ≡ Some moved → (more : List ℕ) (others : List Code) → flat_seen (flat w) flats (source ∷ more) (line ∷ others) (Skips 0) state ≡ entry w source line state moved.state ∷ flat_seen (flat w) flats more others moved.course moved.state
 line_then w flats source line state moved is e more others =
     ap (λ (l : List FlatSeen). l ++ flat_seen_from (line_runs (flat w) state line) (flat_seen (flat w) flats more others)) (line_is_seen (flat w) flats source state line is)
-    ∙ ap (λ (m : Option Moved). seen_moved (flat w) source state line m ++ flat_seen_from m (flat_seen (flat w) flats more others)) e
+    ∙ ap (λ (m : Option LineResult). seen_moved (flat w) source state line m ++ flat_seen_from m (flat_seen (flat w) flats more others)) e
 
 -- one flat line that is a line of the body
 pub line_seen : (w : Sides) (flats : FlatSeenCalls) (source : ℕ) (line : Code) (put_by : List ℤ) (state : State) (effect : Effect) → is_body_line line ≡ true → LineFollows w line put_by state effect → OnwardSeen w flats (source ∷ []) (line ∷ []) put_by state effect (seen_effect source effect)

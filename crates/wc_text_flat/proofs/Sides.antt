@@ -52,7 +52,7 @@ OnwardFollows w own put_by state (Goes (Seeking label result) store items) = ⊥
 OnwardFollows w own put_by state (Goes (Returned result) store items) = ⊥
 OnwardFollows w own put_by state (Fails reason) = Unit {0}
 
--- the same of one flat line
+-- one flat line follows an effect that stays with the next line
 abbrev pub LineFollows : Sides → Code → List ℤ → State → Effect → Type 0
 LineFollows w line put_by state (Goes (Running result) store items) =
     (numbers : List ℤ) × AreContents w.frame store numbers × (length items ≡ 1) × (line_runs (flat w) state line ≡ goes_on (state_of result put_by numbers))

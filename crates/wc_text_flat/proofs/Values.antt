@@ -1,7 +1,7 @@
 -- Values and their numbers: what operators and conditions give on the one and on the other.
 use Rattle.std.proofs.Common.{◌≡◌, Bool, true, false, Option, Some, None, Result, Ok, Err, ℤ, ◌-ℤ◌, ◌*ℤ◌, refl}
 use Rattle.std.specs.Option.{option_map}
-use Rattle.wc_text_flat.specs.NumberOperators.{bit_of, flipped, combined, acts}
+use Rattle.wc_text_flat.specs.NumberOperators.{bit_of, negated_number, apply_number, acts}
 use Rattle.wc_model.specs.Definitions.{bit_number, content_number, quotient, on_truths, on_numbers, on_dints, apply, negated, Reason, wrap}
 use Rattle.wc_model.specs.Language.Meaning as meaning
 use Rattle.wc_model.specs.Language.Store.{Plain}
@@ -27,81 +27,81 @@ bit_of-number true = refl
 bit_of-number false = refl
 
 -- operators on two BOOLs
-pub combined_both : (operator : Operator) → ReadsAs (on_truths operator true true) (combined operator (bit_number true) (bit_number true))
-combined_both And = refl
-combined_both Andn = refl
-combined_both Or = refl
-combined_both Orn = refl
-combined_both Xor = refl
-combined_both Xorn = refl
-combined_both Add = tt
-combined_both Sub = tt
-combined_both Mul = tt
-combined_both Div = tt
-combined_both Mod = tt
-combined_both Gt = tt
-combined_both Ge = tt
-combined_both Eq = refl
-combined_both Ne = refl
-combined_both Le = tt
-combined_both Lt = tt
+pub apply_number_both : (operator : Operator) → ReadsAs (on_truths operator true true) (apply_number operator (bit_number true) (bit_number true))
+apply_number_both And = refl
+apply_number_both Andn = refl
+apply_number_both Or = refl
+apply_number_both Orn = refl
+apply_number_both Xor = refl
+apply_number_both Xorn = refl
+apply_number_both Add = tt
+apply_number_both Sub = tt
+apply_number_both Mul = tt
+apply_number_both Div = tt
+apply_number_both Mod = tt
+apply_number_both Gt = tt
+apply_number_both Ge = tt
+apply_number_both Eq = refl
+apply_number_both Ne = refl
+apply_number_both Le = tt
+apply_number_both Lt = tt
 
-pub combined_first : (operator : Operator) → ReadsAs (on_truths operator true false) (combined operator (bit_number true) (bit_number false))
-combined_first And = refl
-combined_first Andn = refl
-combined_first Or = refl
-combined_first Orn = refl
-combined_first Xor = refl
-combined_first Xorn = refl
-combined_first Add = tt
-combined_first Sub = tt
-combined_first Mul = tt
-combined_first Div = tt
-combined_first Mod = tt
-combined_first Gt = tt
-combined_first Ge = tt
-combined_first Eq = refl
-combined_first Ne = refl
-combined_first Le = tt
-combined_first Lt = tt
+pub apply_number_first : (operator : Operator) → ReadsAs (on_truths operator true false) (apply_number operator (bit_number true) (bit_number false))
+apply_number_first And = refl
+apply_number_first Andn = refl
+apply_number_first Or = refl
+apply_number_first Orn = refl
+apply_number_first Xor = refl
+apply_number_first Xorn = refl
+apply_number_first Add = tt
+apply_number_first Sub = tt
+apply_number_first Mul = tt
+apply_number_first Div = tt
+apply_number_first Mod = tt
+apply_number_first Gt = tt
+apply_number_first Ge = tt
+apply_number_first Eq = refl
+apply_number_first Ne = refl
+apply_number_first Le = tt
+apply_number_first Lt = tt
 
-pub combined_second : (operator : Operator) → ReadsAs (on_truths operator false true) (combined operator (bit_number false) (bit_number true))
-combined_second And = refl
-combined_second Andn = refl
-combined_second Or = refl
-combined_second Orn = refl
-combined_second Xor = refl
-combined_second Xorn = refl
-combined_second Add = tt
-combined_second Sub = tt
-combined_second Mul = tt
-combined_second Div = tt
-combined_second Mod = tt
-combined_second Gt = tt
-combined_second Ge = tt
-combined_second Eq = refl
-combined_second Ne = refl
-combined_second Le = tt
-combined_second Lt = tt
+pub apply_number_second : (operator : Operator) → ReadsAs (on_truths operator false true) (apply_number operator (bit_number false) (bit_number true))
+apply_number_second And = refl
+apply_number_second Andn = refl
+apply_number_second Or = refl
+apply_number_second Orn = refl
+apply_number_second Xor = refl
+apply_number_second Xorn = refl
+apply_number_second Add = tt
+apply_number_second Sub = tt
+apply_number_second Mul = tt
+apply_number_second Div = tt
+apply_number_second Mod = tt
+apply_number_second Gt = tt
+apply_number_second Ge = tt
+apply_number_second Eq = refl
+apply_number_second Ne = refl
+apply_number_second Le = tt
+apply_number_second Lt = tt
 
-pub combined_neither : (operator : Operator) → ReadsAs (on_truths operator false false) (combined operator (bit_number false) (bit_number false))
-combined_neither And = refl
-combined_neither Andn = refl
-combined_neither Or = refl
-combined_neither Orn = refl
-combined_neither Xor = refl
-combined_neither Xorn = refl
-combined_neither Add = tt
-combined_neither Sub = tt
-combined_neither Mul = tt
-combined_neither Div = tt
-combined_neither Mod = tt
-combined_neither Gt = tt
-combined_neither Ge = tt
-combined_neither Eq = refl
-combined_neither Ne = refl
-combined_neither Le = tt
-combined_neither Lt = tt
+pub apply_number_neither : (operator : Operator) → ReadsAs (on_truths operator false false) (apply_number operator (bit_number false) (bit_number false))
+apply_number_neither And = refl
+apply_number_neither Andn = refl
+apply_number_neither Or = refl
+apply_number_neither Orn = refl
+apply_number_neither Xor = refl
+apply_number_neither Xorn = refl
+apply_number_neither Add = tt
+apply_number_neither Sub = tt
+apply_number_neither Mul = tt
+apply_number_neither Div = tt
+apply_number_neither Mod = tt
+apply_number_neither Gt = tt
+apply_number_neither Ge = tt
+apply_number_neither Eq = refl
+apply_number_neither Ne = refl
+apply_number_neither Le = tt
+apply_number_neither Lt = tt
 
 -- by a quotient
 pub quotient_follows : (q : Result ℤ Reason) (go : ℤ → ℤ) → ReadsAs (elim q as (λ x. Result Value Reason) [ Ok n ↦ Ok (Dint (go n)) | Err reason ↦ Err reason ]) (elim q as (λ x. Option ℤ) [ Ok n ↦ Some (go n) | Err reason ↦ None ])
@@ -109,55 +109,55 @@ quotient_follows (Ok n) go = refl
 quotient_follows (Err reason) go = tt
 
 -- operators on two DINTs, and on two TIMEs
-pub combined_dints : (operator : Operator) (a b : ℤ) → ReadsAs (on_dints operator a b) (combined operator a b)
-combined_dints And a b = tt
-combined_dints Andn a b = tt
-combined_dints Or a b = tt
-combined_dints Orn a b = tt
-combined_dints Xor a b = tt
-combined_dints Xorn a b = tt
-combined_dints Add a b = refl
-combined_dints Sub a b = refl
-combined_dints Mul a b = refl
-combined_dints Div a b = quotient_follows (quotient a b) (λ q. wrap q)
-combined_dints Mod a b = quotient_follows (quotient a b) (λ q. a -ℤ q *ℤ b)
-combined_dints Gt a b = refl
-combined_dints another a b = refl
+pub apply_number_dints : (operator : Operator) (a b : ℤ) → ReadsAs (on_dints operator a b) (apply_number operator a b)
+apply_number_dints And a b = tt
+apply_number_dints Andn a b = tt
+apply_number_dints Or a b = tt
+apply_number_dints Orn a b = tt
+apply_number_dints Xor a b = tt
+apply_number_dints Xorn a b = tt
+apply_number_dints Add a b = refl
+apply_number_dints Sub a b = refl
+apply_number_dints Mul a b = refl
+apply_number_dints Div a b = quotient_follows (quotient a b) (λ q. wrap q)
+apply_number_dints Mod a b = quotient_follows (quotient a b) (λ q. a -ℤ q *ℤ b)
+apply_number_dints Gt a b = refl
+apply_number_dints another a b = refl
 
-pub combined_times : (operator : Operator) (a b : ℤ) → ReadsAs (on_numbers Time operator a b) (combined operator a b)
-combined_times And a b = tt
-combined_times Andn a b = tt
-combined_times Or a b = tt
-combined_times Orn a b = tt
-combined_times Xor a b = tt
-combined_times Xorn a b = tt
-combined_times Add a b = refl
-combined_times Sub a b = refl
-combined_times Mul a b = tt
-combined_times Div a b = tt
-combined_times Mod a b = tt
-combined_times Gt a b = refl
-combined_times another a b = refl
+pub apply_number_times : (operator : Operator) (a b : ℤ) → ReadsAs (on_numbers Time operator a b) (apply_number operator a b)
+apply_number_times And a b = tt
+apply_number_times Andn a b = tt
+apply_number_times Or a b = tt
+apply_number_times Orn a b = tt
+apply_number_times Xor a b = tt
+apply_number_times Xorn a b = tt
+apply_number_times Add a b = refl
+apply_number_times Sub a b = refl
+apply_number_times Mul a b = tt
+apply_number_times Div a b = tt
+apply_number_times Mod a b = tt
+apply_number_times Gt a b = refl
+apply_number_times another a b = refl
 
 -- operators on values and on their numbers
-pub combined_follows : (operator : Operator) (a b : Value) → ReadsAs (apply operator a b) (combined operator (value_number a) (value_number b))
-combined_follows operator (Truth true) (Truth true) = combined_both operator
-combined_follows operator (Truth true) (Truth false) = combined_first operator
-combined_follows operator (Truth false) (Truth true) = combined_second operator
-combined_follows operator (Truth false) (Truth false) = combined_neither operator
-combined_follows operator (Dint a) (Dint b) = combined_dints operator a b
-combined_follows operator (Time a) (Time b) = combined_times operator a b
-combined_follows operator (Truth a) (Dint b) = tt
-combined_follows operator (Dint a) (Truth b) = tt
-combined_follows operator (Time a) (Truth b) = tt
-combined_follows operator another third = tt
+pub apply_number_follows : (operator : Operator) (a b : Value) → ReadsAs (apply operator a b) (apply_number operator (value_number a) (value_number b))
+apply_number_follows operator (Truth true) (Truth true) = apply_number_both operator
+apply_number_follows operator (Truth true) (Truth false) = apply_number_first operator
+apply_number_follows operator (Truth false) (Truth true) = apply_number_second operator
+apply_number_follows operator (Truth false) (Truth false) = apply_number_neither operator
+apply_number_follows operator (Dint a) (Dint b) = apply_number_dints operator a b
+apply_number_follows operator (Time a) (Time b) = apply_number_times operator a b
+apply_number_follows operator (Truth a) (Dint b) = tt
+apply_number_follows operator (Dint a) (Truth b) = tt
+apply_number_follows operator (Time a) (Truth b) = tt
+apply_number_follows operator another third = tt
 
 -- negation
-pub flipped_follows : (value : Value) → ReadsAs (negated value) (flipped (value_number value))
-flipped_follows (Truth true) = refl
-flipped_follows (Truth false) = refl
-flipped_follows (Dint n) = tt
-flipped_follows (Time t) = tt
+pub negated_number_follows : (value : Value) → ReadsAs (negated value) (negated_number (value_number value))
+negated_number_follows (Truth true) = refl
+negated_number_follows (Truth false) = refl
+negated_number_follows (Dint n) = tt
+negated_number_follows (Time t) = tt
 
 -- if there is an answer, it is given
 abbrev pub AnswersAs : Result Bool Reason → Option Bool → Type 0

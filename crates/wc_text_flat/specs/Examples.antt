@@ -7,7 +7,7 @@ use Rattle.wc_model.specs.declared.code.Code.TheVariants.{LoadNumber, LoadPlace,
 use Rattle.wc_model.specs.declared.kind.SlotKind.{SlotKind}
 use Rattle.wc_model.specs.declared.operator.Condition.TheVariants.{Always, IfTrue}
 use Rattle.wc_model.specs.declared.operator.Operator.TheVariants.{And, Or, Orn}
-use Rattle.wc_model.specs.declared.operator.Storing.TheVariants.{Result, Negation}
+use Rattle.wc_model.specs.declared.operator.StoreKind.TheVariants.{Result, Negation}
 use Rattle.wc_model.specs.declared.place.Place.{Place}
 use Rattle.wc_model.specs.Definitions.{Name, Scope}
 use Rattle.wc_model.specs.Language.Tree.{Assignment, Word, Constant, Variable, Load, Store as StoreStep, Jump as JumpStep, Call as CallStep, Lines, End, Plain, Nested}

@@ -1,6 +1,6 @@
 -- A later token of a line, if it is none of those that have a case of their own.
 use Rattle.std.proofs.Common.{◌≡◌, ℕ, Bool, List, refl}
-use Rattle.wc_laws_grammar.specs.{AtValue, StartedLine, Formal, Listed, Named, OfArgument, OfOpening, OfStep, OperandOf, at_bracketed, at_list, at_operand, at_operated, after_name, line_move, Applies}
+use Rattle.wc_laws_grammar.specs.{AtValue, StartedLine, Formal, OpenCall, Named, OfArgument, OfOpening, OfStep, OperandOf, at_bracketed, at_list, at_operand, at_operated, after_name, line_move, Applies}
 use Rattle.wc_lexer.specs.Views.{shape_view}
 use Rattle.wc_lexer.specs.declared.shape.Shape.{Shape}
 use Rattle.wc_lexer.specs.declared.shape.Shape.TheVariants.{LineEnd, Opening, Point}
@@ -18,7 +18,7 @@ bracketed-other started operator line LineEnd bytes h = absurd (h refl)
 bracketed-other started operator line _ bytes h = refl
 
 -- after an input's `:=`, other than a line end
-pub value-other : (started : StartedLine) (call : Listed) (input : Formal) (line : ℕ) (shape : Shape) (bytes : List ℕ) → (shape ≡ LineEnd → ⊥) → at_list started call (AtValue input) (symbol_of (shape_view shape) bytes) line ≡ at_operand started (OfArgument call input) (symbol_of (shape_view shape) bytes) line
+pub value-other : (started : StartedLine) (call : OpenCall) (input : Formal) (line : ℕ) (shape : Shape) (bytes : List ℕ) → (shape ≡ LineEnd → ⊥) → at_list started call (AtValue input) (symbol_of (shape_view shape) bytes) line ≡ at_operand started (OfArgument call input) (symbol_of (shape_view shape) bytes) line
 value-other started call input line LineEnd bytes h = absurd (h refl)
 value-other started call input line _ bytes h = refl
 

@@ -16,7 +16,7 @@ use Rattle.wc_text_lines.specs.declared.line_state.LineShape.{LineShape}
 use Rattle.wc_text_lines.specs.declared.line_state.LineShape.TheVariants.{Instructs, Opens}
 use Rattle.wc_text_lines.specs.declared.line_state.LineState.{LineState}
 use Rattle.wc_text_lines.specs.declared.line_state.LineState.TheVariants.{Worded, Labelled, LabelAlone, Instructing}
-use Rattle.wc_text_lines.specs.declared.line_state.Listed.{Listed}
+use Rattle.wc_text_lines.specs.declared.line_state.OpenCall.{OpenCall}
 use Rattle.wc_text_lines.specs.declared.line_state.OperandOf.{OperandOf}
 use Rattle.wc_text_lines.specs.declared.line_state.OperandOf.TheVariants.{OfStep, OfOpening, OfArgument}
 use Rattle.wc_text_lines.specs.declared.line_state.Step.{Step}
@@ -27,7 +27,7 @@ abbrev pub started_view : StartedLine → lines.StartedLine
 started_view started = record { label = option_map word_view started.label; line = started.line }
 
 -- a call whose list has started
-abbrev pub listed_view : Listed → lines.Listed
+abbrev pub listed_view : OpenCall → lines.OpenCall
 listed_view call = record { condition = call.condition; instance = name_view call.instance; arguments = map assignment_view call.arguments.items }
 
 -- an instruction

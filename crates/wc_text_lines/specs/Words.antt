@@ -4,13 +4,13 @@ use Rattle.wc_laws_grammar.specs.Words as words
 use Rattle.wc_lexer.specs.Views.{shape_view, token_view}
 use Rattle.wc_lexer.specs.declared.shape.Token.{Token}
 use Rattle.wc_model.specs.Definitions.{Symbol, Mark, symbol_of, mark_of_token}
-use Rattle.wc_text_lines.specs.declared.operators.Operating.{Operating}
-use Rattle.wc_text_lines.specs.declared.operators.Operating.TheVariants.{Loads, Stores, Applies}
+use Rattle.wc_text_lines.specs.declared.operators.OperandOperator.{OperandOperator}
+use Rattle.wc_text_lines.specs.declared.operators.OperandOperator.TheVariants.{Loads, Stores, Applies}
 use Rattle.wc_text_lines.specs.declared.operators.Operation.{Operation}
 use Rattle.wc_text_lines.specs.declared.operators.Operation.TheVariants.{Operates, Negates, Jumps, Calls, Returns}
 
 -- an operator that takes an operand
-abbrev pub operating_view : Operating → words.Operating
+abbrev pub operating_view : OperandOperator → words.OperandOperator
 operating_view (Loads negated) = words.Loads negated
 operating_view (Stores storing) = words.Stores storing
 operating_view (Applies operator) = words.Applies operator

@@ -1,7 +1,7 @@
 ghost use Rattle.std.specs.Prelude.{IfOk};
 ghost use Rattle.wc_text_lines.specs.LineViews.{LeadsTo};
 
-use crate::line_state::{Formal, InLine, InList, LineShape, Listed, OperandOf, Step};
+use crate::line_state::{Formal, InLine, InList, LineShape, OpenCall, OperandOf, Step};
 use crate::operands::at_operand;
 use crate::words::word;
 use std::alloc::{AllocError, Global};
@@ -17,7 +17,7 @@ pub(crate) fn at_instance<'a>(
 ) -> Option<InLine<'a>>
     ensures { LeadsTo (InLine.Instanced condition instance.entry) token.entry result }
 {
-    let call = Listed {
+    let call = OpenCall {
         condition,
         instance,
         arguments: Vec::new(alloc),
@@ -30,7 +30,7 @@ pub(crate) fn at_instance<'a>(
 }
 
 /// After the token that follows the list's bracket: an input or output, or the list's end.
-fn at_first<'a>(call: Listed<'a>, token: Token<'a>) -> Option<InLine<'a>>
+fn at_first<'a>(call: OpenCall<'a>, token: Token<'a>) -> Option<InLine<'a>>
     ensures { LeadsTo (InLine.Listing call.entry InList.AtFirst) token.entry result }
 {
     match token.shape {
@@ -42,7 +42,7 @@ fn at_first<'a>(call: Listed<'a>, token: Token<'a>) -> Option<InLine<'a>>
 }
 
 /// After the token that follows a comma: an input or output.
-fn at_next<'a>(call: Listed<'a>, token: Token<'a>) -> Option<InLine<'a>>
+fn at_next<'a>(call: OpenCall<'a>, token: Token<'a>) -> Option<InLine<'a>>
     ensures { LeadsTo (InLine.Listing call.entry InList.AtNext) token.entry result }
 {
     match token.shape {
@@ -53,7 +53,7 @@ fn at_next<'a>(call: Listed<'a>, token: Token<'a>) -> Option<InLine<'a>>
 }
 
 /// After the token that follows the name of an input or output: its `:=` or `=>`.
-fn at_assign<'a>(call: Listed<'a>, word: Word<'a>, token: Token<'a>) -> Option<InLine<'a>>
+fn at_assign<'a>(call: OpenCall<'a>, word: Word<'a>, token: Token<'a>) -> Option<InLine<'a>>
     ensures { LeadsTo (InLine.Listing call.entry (InList.AtAssign word.entry)) token.entry result }
 {
     let direction = match token.shape {
@@ -67,7 +67,7 @@ fn at_assign<'a>(call: Listed<'a>, word: Word<'a>, token: Token<'a>) -> Option<I
 
 /// After the token that follows `:=` or `=>`: a value, or a target.
 fn at_value<'a>(
-    call: Listed<'a>,
+    call: OpenCall<'a>,
     formal: Formal<'a>,
     token: Token<'a>,
 ) -> Result<Option<InLine<'a>>, AllocError>
@@ -81,7 +81,7 @@ fn at_value<'a>(
 }
 
 /// After the token that follows a whole argument: a comma, or the list's end.
-fn at_end<'a>(call: Listed<'a>, token: Token<'a>) -> Option<InLine<'a>>
+fn at_end<'a>(call: OpenCall<'a>, token: Token<'a>) -> Option<InLine<'a>>
     ensures { LeadsTo (InLine.Listing call.entry InList.AtEnd) token.entry result }
 {
     match token.shape {
@@ -94,7 +94,7 @@ fn at_end<'a>(call: Listed<'a>, token: Token<'a>) -> Option<InLine<'a>>
 
 /// After one more token of a call's list, whose line ends are passed over.
 pub(crate) fn at_list<'a>(
-    call: Listed<'a>,
+    call: OpenCall<'a>,
     item: InList<'a>,
     token: Token<'a>,
 ) -> Result<Option<InLine<'a>>, AllocError>

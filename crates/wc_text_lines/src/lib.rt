@@ -10,8 +10,8 @@ mod operators;
 mod words;
 
 pub use line_state::{
-    Formal, InLine, InList, LineShape, LineState, Listed, OperandOf, StartedLine, Step,
+    Formal, InLine, InList, LineShape, LineState, OpenCall, OperandOf, StartedLine, Step,
 };
 pub use lines::{at_start, at_start_inside, line_move};
-pub use operators::{Operating, Operation, is_transfer, operation_named, operation_of};
+pub use operators::{OperandOperator, Operation, is_transfer, operation_named, operation_of};
 pub use words::{ends_section, ends_unit, section_named, truth, unit_kind, word};

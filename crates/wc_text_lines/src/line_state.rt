@@ -1,4 +1,4 @@
-use crate::operators::Operating;
+use crate::operators::OperandOperator;
 use std::alloc::Global;
 use wc_model::{Argument, Condition, Direction, Operand, Operator, Word};
 
@@ -11,7 +11,7 @@ pub struct StartedLine<'a> {
 
 /// A call whose list has started, with the arguments so far.
 #[derive(Drop)]
-pub struct Listed<'a> {
+pub struct OpenCall<'a> {
     pub condition: Condition,
     pub instance: Word<'a>,
     pub arguments: Vec<Argument<'a>, Global>,
@@ -21,10 +21,10 @@ pub struct Listed<'a> {
 #[derive(Drop)]
 pub enum Step<'a> {
     /// An operator with its operand.
-    Operate(Operating, Operand<'a>),
+    Operate(OperandOperator, Operand<'a>),
     Negate,
     Jump(Condition, Word<'a>),
-    Call(Listed<'a>),
+    Call(OpenCall<'a>),
     Return(Condition),
 }
 
@@ -39,11 +39,11 @@ pub struct Formal<'a> {
 #[derive(Drop)]
 pub enum OperandOf<'a> {
     /// An instruction's.
-    OfStep(Operating),
+    OfStep(OperandOperator),
     /// An opening line's.
     OfOpening(Operator),
     /// That of one of a call's list, with its input or output.
-    OfArgument(Listed<'a>, Formal<'a>),
+    OfArgument(OpenCall<'a>, Formal<'a>),
 }
 
 /// Where a call's list is.
@@ -74,7 +74,7 @@ pub enum LineShape<'a> {
 #[derive(Drop)]
 pub enum InLine<'a> {
     /// After an operator that takes an operand.
-    Operated(Operating),
+    Operated(OperandOperator),
     /// After a jump's operator.
     Jumped(Condition),
     /// After a call's operator.
@@ -82,7 +82,7 @@ pub enum InLine<'a> {
     /// After a call's instance.
     Instanced(Condition, Word<'a>),
     /// In a call's list.
-    Listing(Listed<'a>, InList<'a>),
+    Listing(OpenCall<'a>, InList<'a>),
     /// After a name where an operand is, and whether after the point after it too.
     Named(OperandOf<'a>, Word<'a>, bool),
     /// After what may be the whole line, and whether after the line's end too.

@@ -9,7 +9,7 @@ ghost use Rattle.wc_text_lines.specs.Words.{operating_view, operation_view, symb
 use crate::calls::{at_instance, at_list};
 use crate::line_state::{InLine, LineShape, LineState, OperandOf, StartedLine, Step};
 use crate::operands::{after_name, at_operand};
-use crate::operators::{Operating, Operation, is_transfer, operation_named, operation_of};
+use crate::operators::{OperandOperator, Operation, is_transfer, operation_named, operation_of};
 use crate::words::word;
 use std::alloc::{AllocError, Global};
 use wc_lexer::{Shape, Token};
@@ -118,13 +118,16 @@ fn at_applied<'a>(operator: Operator, token: Token<'a>) -> Result<Option<InLine<
 {
     match token.shape {
         Shape::Opening => Ok(Some(InLine::Formed(LineShape::Opens(operator, None), false))),
-        _ => at_operand(OperandOf::OfStep(Operating::Applies(operator)), token),
+        _ => at_operand(OperandOf::OfStep(OperandOperator::Applies(operator)), token),
     }
 }
 
 /// After the token that follows an operator that takes an operand.
 #[inline(always)]
-fn at_operated<'a>(operating: Operating, token: Token<'a>) -> Result<Option<InLine<'a>>, AllocError>
+fn at_operated<'a>(
+    operating: OperandOperator,
+    token: Token<'a>,
+) -> Result<Option<InLine<'a>>, AllocError>
     ensures { IfOk result
         (λ next. (started : lines.StartedLine)
         → option_map (in_line_view started) next
@@ -132,8 +135,8 @@ fn at_operated<'a>(operating: Operating, token: Token<'a>) -> Result<Option<InLi
         (symbol_view token.entry) token.entry.line) }
 {
     match operating {
-        Operating::Applies(operator) => at_applied(operator, token),
-        Operating::Loads(_) | Operating::Stores(_) => at_operand(
+        OperandOperator::Applies(operator) => at_applied(operator, token),
+        OperandOperator::Loads(_) | OperandOperator::Stores(_) => at_operand(
             OperandOf::OfStep(operating),
             token,
         ),

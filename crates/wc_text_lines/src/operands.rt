@@ -5,8 +5,8 @@ ghost use Rattle.wc_model.specs.Language.Views.{name_view, term_view};
 ghost use Rattle.wc_text_lines.specs.LineViews.{LeadsTo, formal_view, in_line_view, listed_view, owner_view};
 ghost use Rattle.wc_text_lines.specs.Words.{symbol_view};
 
-use crate::line_state::{Formal, InLine, InList, LineShape, Listed, OperandOf, Step};
-use crate::operators::Operating;
+use crate::line_state::{Formal, InLine, InList, LineShape, OpenCall, OperandOf, Step};
+use crate::operators::OperandOperator;
 use crate::words::{truth, word};
 use std::alloc::AllocError;
 use wc_lexer::{Shape, Token};
@@ -14,10 +14,10 @@ use wc_model::{Argument, Operand, Operator, Value, Word};
 
 /// The call with one more argument.
 fn with_argument<'a>(
-    call: Listed<'a>,
+    call: OpenCall<'a>,
     formal: Formal<'a>,
     value: Operand<'a>,
-) -> Result<Listed<'a>, AllocError>
+) -> Result<OpenCall<'a>, AllocError>
     ensures { IfOk result
         (λ more.
         listed_view more
@@ -85,7 +85,7 @@ pub(crate) fn at_operand<'a>(
 
 /// After the token that follows an argument's name that is the whole operand.
 fn after_value<'a>(
-    call: Listed<'a>,
+    call: OpenCall<'a>,
     formal: Formal<'a>,
     name: Word<'a>,
     token: Token<'a>,

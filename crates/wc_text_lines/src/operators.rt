@@ -6,15 +6,15 @@ ghost use Rattle.wc_text_lines.specs.Words.{operation_view, symbol_view};
 
 use wc_built_in::{Keyword, keyword_named};
 use wc_lexer::{Shape, Token};
-use wc_model::{Condition, Operator, Storing};
+use wc_model::{Condition, Operator, StoreKind};
 
 /// An operator that takes an operand.
 #[derive(Clone, Copy)]
-pub enum Operating {
+pub enum OperandOperator {
     /// LD, or LDN if negated.
     Loads(bool),
     /// ST, STN, S, R.
-    Stores(Storing),
+    Stores(StoreKind),
     /// An operator that a parenthesis may defer.
     Applies(Operator),
 }
@@ -23,7 +23,7 @@ pub enum Operating {
 #[derive(Clone, Copy)]
 pub enum Operation {
     /// With an operand.
-    Operates(Operating),
+    Operates(OperandOperator),
     /// NOT.
     Negates,
     /// JMP, JMPC, JMPCN.
@@ -39,9 +39,9 @@ fn operation_for(keyword: Keyword) -> Option<Operation>
     ensures { option_map operation_view result ≡ operation_for keyword }
 {
     let operation = match keyword {
-        Keyword::Load(negated) => Operation::Operates(Operating::Loads(negated)),
-        Keyword::Store(storing) => Operation::Operates(Operating::Stores(storing)),
-        Keyword::Apply(operator) => Operation::Operates(Operating::Applies(operator)),
+        Keyword::Load(negated) => Operation::Operates(OperandOperator::Loads(negated)),
+        Keyword::Store(storing) => Operation::Operates(OperandOperator::Stores(storing)),
+        Keyword::Apply(operator) => Operation::Operates(OperandOperator::Applies(operator)),
         Keyword::Not => Operation::Negates,
         Keyword::Jump(condition) => Operation::Jumps(condition),
         Keyword::Call(condition) => Operation::Calls(condition),
@@ -66,12 +66,12 @@ fn frequent_operation(text: &[u8]) -> Option<Operation>
         ≡ Some (operation_view operation)) }
 {
     match text {
-        b"LD" => Some(Operation::Operates(Operating::Loads(false))),
-        b"ST" => Some(Operation::Operates(Operating::Stores(Storing::Result))),
-        b"AND" => Some(Operation::Operates(Operating::Applies(Operator::And))),
-        b"OR" => Some(Operation::Operates(Operating::Applies(Operator::Or))),
-        b"ADD" => Some(Operation::Operates(Operating::Applies(Operator::Add))),
-        b"GT" => Some(Operation::Operates(Operating::Applies(Operator::Gt))),
+        b"LD" => Some(Operation::Operates(OperandOperator::Loads(false))),
+        b"ST" => Some(Operation::Operates(OperandOperator::Stores(StoreKind::Result))),
+        b"AND" => Some(Operation::Operates(OperandOperator::Applies(Operator::And))),
+        b"OR" => Some(Operation::Operates(OperandOperator::Applies(Operator::Or))),
+        b"ADD" => Some(Operation::Operates(OperandOperator::Applies(Operator::Add))),
+        b"GT" => Some(Operation::Operates(OperandOperator::Applies(Operator::Gt))),
         b"CAL" => Some(Operation::Calls(Condition::Always)),
         b"JMPC" => Some(Operation::Jumps(Condition::IfTrue)),
         _ => None,
@@ -95,8 +95,8 @@ pub fn operation_of(token: Token) -> Option<Operation>
 {
     match token.shape {
         Shape::Identifier => operation_named(token.text),
-        Shape::And => Some(Operation::Operates(Operating::Applies(Operator::And))),
-        Shape::AndNot => Some(Operation::Operates(Operating::Applies(Operator::Andn))),
+        Shape::And => Some(Operation::Operates(OperandOperator::Applies(Operator::And))),
+        Shape::AndNot => Some(Operation::Operates(OperandOperator::Applies(Operator::Andn))),
         _ => None,
     }
 }

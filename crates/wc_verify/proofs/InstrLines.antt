@@ -9,7 +9,7 @@ use Rattle.wc_model.specs.declared.operand.Operand.{Operand}
 use Rattle.wc_model.specs.declared.operand.Word.{Word as Spelled}
 use Rattle.wc_model.specs.declared.operator.Condition.{Condition}
 use Rattle.wc_model.specs.declared.operator.Operator.{Operator}
-use Rattle.wc_model.specs.declared.operator.Storing.{Storing}
+use Rattle.wc_model.specs.declared.operator.StoreKind.{StoreKind}
 use Rattle.wc_model.specs.declared.tree.Argument.{Argument}
 use Rattle.wc_model.specs.declared.tree.Instr.{Instr, map-Instr, out-Instr}
 use Rattle.wc_model.specs.declared.tree.Instr.TheVariants as instrs
@@ -105,7 +105,7 @@ lines_first line lines = refl
 pub line_load : (n : Bool) (o : Operand) (k : ℕ) (label : Option Word) → instr_line (instrs.Load n o k) label ≡ PlainLine label k (Load n (term_view o))
 line_load n o k label = search (the_lemmas, rules)
 
-pub line_store : (n : Storing) (o : Operand) (k : ℕ) (label : Option Word) → instr_line (instrs.Store n o k) label ≡ PlainLine label k (Store n (term_view o))
+pub line_store : (n : StoreKind) (o : Operand) (k : ℕ) (label : Option Word) → instr_line (instrs.Store n o k) label ≡ PlainLine label k (Store n (term_view o))
 line_store n o k label = search (the_lemmas, rules)
 
 pub line_apply : (n : Operator) (o : Operand) (k : ℕ) (label : Option Word) → instr_line (instrs.Apply n o k) label ≡ PlainLine label k (Apply n (term_view o))

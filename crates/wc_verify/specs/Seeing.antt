@@ -6,7 +6,7 @@ use Rattle.wc_names.specs.{IsUnit, AreTables}
 use Rattle.wc_names.specs.declared.kept.Tables.{Tables}
 use Rattle.wc_names.specs.declared.declared_type.DeclaredType.{DeclaredType}
 use Rattle.wc_names.specs.declared.declared_type.DeclaredType.TheVariants.{Elementary, Standard, Block}
-use Rattle.wc_verify.specs.declared.seen.Seen.{Seen}
+use Rattle.wc_verify.specs.declared.seen.OperandFacts.{OperandFacts}
 
 -- the tables are those of a text, whose unit of that number is in this scope
 pub record IsScope (tables : Tables) (unit : ℕ) (scope : Scope) : Type 0 where
@@ -15,14 +15,14 @@ pub record IsScope (tables : Tables) (unit : ℕ) (scope : Scope) : Type 0 where
   pub unit_is : IsUnit text unit scope
 
 -- what is known of a term
-pub record IsSeen (scope : Scope) (term : Term) (seen : Seen) : Type 0 where
+pub record IsSeen (scope : Scope) (term : Term) (seen : OperandFacts) : Type 0 where
   pub known : is_some (entity_of scope term) ≡ seen.known
   pub readable : is_readable (entity_of scope term) ≡ seen.readable
   pub writable : is_writable (entity_of scope term) ≡ seen.writable
   pub kind : term_kind scope term ≡ seen.kind
 
 -- and of one that may be left out
-abbrev pub IsSeenIfAny : Scope → Option Term → Option Seen → Type 0
+abbrev pub IsSeenIfAny : Scope → Option Term → Option OperandFacts → Type 0
 IsSeenIfAny scope None None = Unit {0}
 IsSeenIfAny scope (Some term) (Some seen) = IsSeen scope term seen
 IsSeenIfAny scope None (Some seen) = ⊥

@@ -7,14 +7,14 @@ use crate::refusals::{
     first_of, is_of_kind, refusal, refuse, unless, validate_condition, validate_reading,
     validate_writing,
 };
-use crate::seen::{Seen, see};
+use crate::seen::{OperandFacts, see};
 use std::alloc::Global;
 use wc_built_in::{is_bit_literal, is_kind};
 use wc_model::{Argument, Condition, Direction, Fault, Kind, Operand};
 use wc_names::{DeclaredType, Names, Tables};
 
 /// Whether an input of a kind takes what is assigned.
-fn suits_input(kind: Kind, operand: &Operand<'_>, seen: Seen) -> bool
+fn suits_input(kind: Kind, operand: &Operand<'_>, seen: OperandFacts) -> bool
     ensures { (scope : Scope) (m : Member) → IsSeen scope (term_view operand.now) seen
         → elementary_kind m.type ≡ Some kind
         → suits_input scope (Some m) (term_view operand.now) ≡ result }
@@ -27,7 +27,7 @@ fn validate_actual(
     direction: Direction,
     kind: Kind,
     operand: &Operand<'_>,
-    seen: Seen,
+    seen: OperandFacts,
 ) -> Option<u16>
     ensures { (scope : Scope) (m : Member) → IsSeen scope (term_view operand.now) seen
         → elementary_kind m.type ≡ Some kind

@@ -5,7 +5,7 @@ ghost use Rattle.wc_verify.specs.Seeing.{IsScope, IsSeenIfAny};
 
 use crate::instructions::{apply, call, jump, kind_following, load, store};
 use crate::refusals::{refuse, validate_condition, validate_truth};
-use crate::seen::{Seen, see};
+use crate::seen::{OperandFacts, see};
 use crate::steps::{validate_closing, validate_opening};
 use std::alloc::Global;
 use wc_built_in::kind_after_operator;
@@ -13,7 +13,11 @@ use wc_model::{Fault, Instr, Kind, Line, Operand, Operator};
 use wc_names::Tables;
 
 /// What the operand on an opening line names, if one is written.
-fn see_if_any<'a>(tables: &Tables<'a>, unit: usize, operand: &Option<Operand<'a>>) -> Option<Seen>
+fn see_if_any<'a>(
+    tables: &Tables<'a>,
+    unit: usize,
+    operand: &Option<Operand<'a>>,
+) -> Option<OperandFacts>
     ensures { (scope : Scope) → IsScope tables.now unit scope
         → IsSeenIfAny scope (option_map term_view operand.now) result }
 {
@@ -22,7 +26,7 @@ fn see_if_any<'a>(tables: &Tables<'a>, unit: usize, operand: &Option<Operand<'a>
 }
 
 /// The kind with which the lines inside a parenthesis start.
-fn opening_kind(seen: Option<Seen>) -> Option<Kind>
+fn opening_kind(seen: Option<OperandFacts>) -> Option<Kind>
     ensures { (scope : Scope) (term : Option Term) → IsSeenIfAny scope term seen
         → opening_kind scope term ≡ result }
 {

@@ -10,7 +10,7 @@ use crate::seen::see;
 use crate::steps::{validate_apply, validate_load, validate_store};
 use std::alloc::Global;
 use wc_built_in::kind_after_operator;
-use wc_model::{Argument, Condition, Fault, Kind, Operand, Operator, Storing};
+use wc_model::{Argument, Condition, Fault, Kind, Operand, Operator, StoreKind};
 use wc_names::Tables;
 
 /// What follows a line that is checked: the kind of the result after it.
@@ -55,7 +55,7 @@ pub(crate) fn load<'a>(
 pub(crate) fn store<'a>(
     tables: &Tables<'a>,
     unit: usize,
-    storing: Storing,
+    storing: StoreKind,
     target: &Operand<'a>,
     line: u32,
     kind: Option<Kind>,

@@ -2,7 +2,7 @@ ghost use Rattle.std.specs.Prelude.{◌≡◌, ℕ, [], ◌∷◌, IfErr, Option
 ghost use Rattle.wc_model.specs.Definitions.{condition_checks, divisor_checks, is_of, takes, reading_checks, result_checks, suits_result, suits_target, truth_checks, writing_checks, Refusal, asks, is_kind, Scope, Term, term_view, Validates};
 ghost use Rattle.wc_verify.specs.Seeing.{Finds, first_at, IsSeen};
 
-use crate::seen::Seen;
+use crate::seen::OperandFacts;
 use wc_built_in::{divides, is_bit_literal, is_bool, is_divisor, is_kind, takes, takes_truth};
 use wc_model::{Condition, Fault, Kind, Operand, Operator};
 
@@ -42,7 +42,7 @@ pub(crate) fn refuse(number: Option<u16>, line: u32) -> Result<(), Fault>
 }
 
 /// What is read: 401, 405.
-pub(crate) fn validate_reading(seen: Seen) -> Option<u16>
+pub(crate) fn validate_reading(seen: OperandFacts) -> Option<u16>
     ensures { (scope : Scope) (term : Term) → IsSeen scope term seen
         → Finds (λ line. reading_checks scope line term) result }
 {
@@ -50,7 +50,7 @@ pub(crate) fn validate_reading(seen: Seen) -> Option<u16>
 }
 
 /// What is written: 401, 404.
-pub(crate) fn validate_writing(seen: Seen) -> Option<u16>
+pub(crate) fn validate_writing(seen: OperandFacts) -> Option<u16>
     ensures { (scope : Scope) (term : Term) → IsSeen scope term seen
         → Finds (λ line. writing_checks scope line term) result }
 {
@@ -113,7 +113,7 @@ pub(crate) fn is_of_kind(kind: Kind, seen: Option<Kind>) -> bool
 pub(crate) fn suits_result(
     operator: Operator,
     operand: &Operand<'_>,
-    seen: Seen,
+    seen: OperandFacts,
     kind: Option<Kind>,
 ) -> bool
     ensures { (scope : Scope) → IsSeen scope (term_view operand.now) seen
@@ -129,7 +129,7 @@ pub(crate) fn suits_result(
 }
 
 /// Whether what is written is of the result's kind.
-pub(crate) fn suits_target(seen: Seen, kind: Option<Kind>) -> bool
+pub(crate) fn suits_target(seen: OperandFacts, kind: Option<Kind>) -> bool
     ensures { (scope : Scope) (term : Term) → IsSeen scope term seen
         → result ≡ suits_target scope term kind }
 {

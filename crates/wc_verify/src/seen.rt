@@ -6,7 +6,7 @@ use wc_names::Tables;
 
 /// What is known of an operand.
 #[derive(Clone, Copy)]
-pub(crate) struct Seen {
+pub(crate) struct OperandFacts {
     /// Whether there is what it names.
     pub(crate) known: bool,
     /// Whether that may be read, or is not there.
@@ -18,18 +18,18 @@ pub(crate) struct Seen {
 }
 
 /// What an operand names in the body of a unit.
-pub(crate) fn see<'a>(tables: &Tables<'a>, unit: usize, operand: &Operand<'_>) -> Seen
+pub(crate) fn see<'a>(tables: &Tables<'a>, unit: usize, operand: &Operand<'_>) -> OperandFacts
     ensures { (scope : Scope) → IsScope tables.now unit scope
         → IsSeen scope (term_view operand.now) result }
 {
     match tables.entity(unit, operand) {
-        Some(entity) => Seen {
+        Some(entity) => OperandFacts {
             known: true,
             readable: entity.readable,
             writable: entity.writable,
             kind: entity.kind,
         },
-        None => Seen {
+        None => OperandFacts {
             known: false,
             readable: true,
             writable: true,

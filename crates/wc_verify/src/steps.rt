@@ -6,9 +6,9 @@ use crate::refusals::{
     first_of, suits_result, suits_target, unless, validate_divisor, validate_reading,
     validate_result, validate_truth, validate_writing,
 };
-use crate::seen::Seen;
+use crate::seen::OperandFacts;
 use wc_built_in::{divides, is_bool, same_result};
-use wc_model::{Kind, Operand, Operator, Storing};
+use wc_model::{Kind, Operand, Operator, StoreKind};
 
 /// Whether LD or LDN takes an operand of the kind.
 fn is_loaded(negated: bool, kind: Option<Kind>) -> bool
@@ -22,7 +22,7 @@ fn is_loaded(negated: bool, kind: Option<Kind>) -> bool
 }
 
 /// LD and LDN.
-pub(crate) fn validate_load(negated: bool, seen: Seen) -> Option<u16>
+pub(crate) fn validate_load(negated: bool, seen: OperandFacts) -> Option<u16>
     ensures { (scope : Scope) (term : Term) → IsSeen scope term seen
         → Finds (λ line. load_checks scope line negated term) result }
 {
@@ -33,12 +33,16 @@ pub(crate) fn validate_load(negated: bool, seen: Seen) -> Option<u16>
 }
 
 /// ST, STN, S and R.
-pub(crate) fn validate_store(storing: Storing, seen: Seen, kind: Option<Kind>) -> Option<u16>
+pub(crate) fn validate_store(
+    storing: StoreKind,
+    seen: OperandFacts,
+    kind: Option<Kind>,
+) -> Option<u16>
     ensures { (scope : Scope) (term : Term) → IsSeen scope term seen
         → Finds (λ line. store_checks scope line storing term kind) result }
 {
     match storing {
-        Storing::Result => {
+        StoreKind::Result => {
             let stored = first_of(
                 unless(kind.is_some(), 403),
                 unless(suits_target(seen, kind), 402),
@@ -56,7 +60,7 @@ pub(crate) fn validate_store(storing: Storing, seen: Seen, kind: Option<Kind>) -
 pub(crate) fn validate_apply(
     operator: Operator,
     operand: &Operand<'_>,
-    seen: Seen,
+    seen: OperandFacts,
     kind: Option<Kind>,
 ) -> Option<u16>
     ensures { (scope : Scope) → IsSeen scope (term_view operand.now) seen
@@ -71,7 +75,7 @@ pub(crate) fn validate_apply(
 }
 
 /// The operand on an opening line: 401, 405.
-fn validate_opening_operand(seen: Option<Seen>) -> Option<u16>
+fn validate_opening_operand(seen: Option<OperandFacts>) -> Option<u16>
     ensures { (scope : Scope) (term : Option Term) → IsSeenIfAny scope term seen
         → Finds (λ line. opening_operand_checks scope line term) result }
 {
@@ -79,7 +83,7 @@ fn validate_opening_operand(seen: Option<Seen>) -> Option<u16>
 }
 
 /// Whether the operand on an opening line is not an instance.
-fn is_no_instance(seen: Option<Seen>) -> bool
+fn is_no_instance(seen: Option<OperandFacts>) -> bool
     ensures { (scope : Scope) (term : Option Term) → IsSeenIfAny scope term seen
         → is_no_instance scope term ≡ result }
 {
@@ -92,7 +96,7 @@ fn is_no_instance(seen: Option<Seen>) -> bool
 /// An opening line.
 pub(crate) fn validate_opening(
     operator: Operator,
-    seen: Option<Seen>,
+    seen: Option<OperandFacts>,
     kind: Option<Kind>,
 ) -> Option<u16>
     ensures { (scope : Scope) (term : Option Term) → IsSeenIfAny scope term seen

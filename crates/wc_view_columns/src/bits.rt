@@ -36,7 +36,7 @@ impl Bits {
     }
 
     /// The bits of these values and then others.
-    pub(crate) fn joined(self, later: Bits) -> Bits
+    pub(crate) fn merge(self, later: Bits) -> Bits
         ensures { (values others : List ℕ) → AreBitsOf values self → AreBitsOf others later
             → AreBitsOf (values ++ others) result }
     {

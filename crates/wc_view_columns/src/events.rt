@@ -61,7 +61,7 @@ impl Events {
     }
 
     /// These and later ones.
-    pub fn joined(&self, later: &Events) -> Events
+    pub fn merge(&self, later: &Events) -> Events
         ensures steps { result.steps ≡ max self.now.steps later.now.steps }
         ensures both { AreBoth self.now later.now result }
     {

@@ -87,7 +87,7 @@ fn with_column(all: Option<Column>, column: &Column) -> Column
         → AreBoth before.events column.now.events result.events }
 {
     match all {
-        Some(all) => all.joined(column),
+        Some(all) => all.merge(column),
         None => *column,
     }
 }

@@ -24,14 +24,14 @@ impl Column {
     }
 
     /// The column of this time and of the time after it.
-    pub fn joined(&self, later: &Column) -> Column
+    pub fn merge(&self, later: &Column) -> Column
         ensures state { (held others : List Held) → IsStateOf held self.now.state
             → IsStateOf others later.now.state → IsStateOf (held ++ others) result.state }
         ensures events { AreBoth self.now.events later.now.events result.events }
     {
         Column {
-            state: self.state.joined(&later.state),
-            events: self.events.joined(&later.events),
+            state: self.state.merge(&later.state),
+            events: self.events.merge(&later.events),
         }
     }
 }

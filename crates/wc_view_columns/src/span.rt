@@ -32,7 +32,7 @@ impl Span {
     }
 
     /// The span of these numbers and then others.
-    pub(crate) fn joined(self, later: Span) -> Span
+    pub(crate) fn merge(self, later: Span) -> Span
         ensures least { result.least ≡ int_min self.least later.least }
         ensures greatest { result.greatest ≡ int_max self.greatest later.greatest }
         ensures last { result.last ≡ later.last }
@@ -60,7 +60,7 @@ pub fn join(earlier: Option<Span>, later: Option<Span>) -> Option<Span>
         → result ≡ span_of (numbers ++ others) }
 {
     match (earlier, later) {
-        (Some(earlier), Some(later)) => Some(earlier.joined(later)),
+        (Some(earlier), Some(later)) => Some(earlier.merge(later)),
         (Some(span), None) => Some(span),
         (None, span) => span,
     }

@@ -66,7 +66,7 @@ fn variables_of(numbers: [Option<i64>; 4]) -> [Option<Span>; 4]
 }
 
 /// The spans of the numbers of some variables and then of others.
-fn joined_variables(earlier: [Option<Span>; 4], later: [Option<Span>; 4]) -> [Option<Span>; 4]
+fn merge_variables(earlier: [Option<Span>; 4], later: [Option<Span>; 4]) -> [Option<Span>; 4]
     ensures { (numbers others : ℕ → List ℤ)
         → ((i : ℕ) → i < 4 → get_or earlier i None ≡ span_of (numbers i))
         → ((i : ℕ) → i < 4 → get_or later i None ≡ span_of (others i))
@@ -81,14 +81,14 @@ fn joined_variables(earlier: [Option<Span>; 4], later: [Option<Span>; 4]) -> [Op
 }
 
 /// A weight with 64 bits.
-fn widened(weight: Option<i32>) -> Option<i64>
+fn wide_weight(weight: Option<i32>) -> Option<i64>
     ensures { result ≡ weight }
 {
     Some(i64::from(weight?))
 }
 
 /// The spans of some words and then of others.
-fn joined_words(earlier: [Span; 4], later: [Span; 4]) -> [Span; 4]
+fn merge_words(earlier: [Span; 4], later: [Span; 4]) -> [Span; 4]
     ensures { (words others : ℕ → List ℤ)
         → ((other : Span) (i : ℕ) → i < 4 → Some (get_or earlier i other) ≡ span_of (words i))
         → ((other : Span) (i : ℕ) → i < 4 → Some (get_or later i other) ≡ span_of (others i))
@@ -96,10 +96,10 @@ fn joined_words(earlier: [Span; 4], later: [Span; 4]) -> [Span; 4]
         → Some (get_or result i other) ≡ span_of (words i ++ others i) }
 {
     [
-        earlier[0].joined(later[0]),
-        earlier[1].joined(later[1]),
-        earlier[2].joined(later[2]),
-        earlier[3].joined(later[3]),
+        earlier[0].merge(later[0]),
+        earlier[1].merge(later[1]),
+        earlier[2].merge(later[2]),
+        earlier[3].merge(later[3]),
     ]
 }
 
@@ -131,8 +131,8 @@ impl State {
             → IsStateOf (held_at p history inputs outputs.now numbers ∷ []) result }
     {
         State {
-            gross: Span::of(widened(indicator.gross())),
-            net: Span::of(widened(net_of(indicator))),
+            gross: Span::of(wide_weight(indicator.gross())),
+            net: Span::of(wide_weight(net_of(indicator))),
             motion: !indicator.stable(),
             over: indicator.over(),
             under: indicator.under(),
@@ -145,7 +145,7 @@ impl State {
     }
 
     /// What held over these moments and later ones.
-    pub(crate) fn joined(&self, later: &State) -> State
+    pub(crate) fn merge(&self, later: &State) -> State
         ensures { (held others : List Held) → IsStateOf held self.now → IsStateOf others later.now
             → IsStateOf (held ++ others) result }
     {
@@ -156,10 +156,10 @@ impl State {
             over: self.over | later.over,
             under: self.under | later.under,
             invalid: self.invalid | later.invalid,
-            inputs: self.inputs.joined(later.inputs),
-            outputs: self.outputs.joined(later.outputs),
-            words: joined_words(self.words, later.words),
-            variables: joined_variables(self.variables, later.variables),
+            inputs: self.inputs.merge(later.inputs),
+            outputs: self.outputs.merge(later.outputs),
+            words: merge_words(self.words, later.words),
+            variables: merge_variables(self.variables, later.variables),
         }
     }
 }

@@ -14,7 +14,7 @@ fn pair_at(columns: &[Column], index: usize) -> Column
 {
     let first = &columns[index];
     match columns.get(index + 1) {
-        Some(second) => first.joined(second),
+        Some(second) => first.merge(second),
         None => *first,
     }
 }
@@ -120,7 +120,7 @@ impl TimeLine {
         self.start = ms;
         self.columns.clear();
         self.columns
-            .push_reserved(Column::holding(row.state).joined(row));
+            .push_reserved(Column::holding(row.state).merge(row));
     }
 
     /// Takes a row before which this held.
@@ -135,7 +135,7 @@ impl TimeLine {
         self.reach(ms);
         let index = self.number(ms) as usize;
         fill(&mut self.columns, index + 1, held);
-        let column = self.columns[index].joined(row);
+        let column = self.columns[index].merge(row);
         self.columns[index] = column;
     }
 

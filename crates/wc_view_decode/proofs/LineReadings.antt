@@ -76,7 +76,7 @@ weight_passes decimals (Some value) few short =
     (fraction_passes decimals (unsigned_abs value)))
 
 -- an answer with a weight
-read_one : (p : PlateData) (history : History) (mode : line_answers.Mode) (asked : line_answers.Asked) → IsPlate p
+read_one : (p : PlateData) (history : History) (mode : line_answers.Mode) (asked : line_answers.RequestOutcome) → IsPlate p
     → (r : WeightAnswer) × IsAnswer (Weight r) × (line_answers.answer p history mode asked ≡ reading_bytes r) × IsReadingOf p history mode asked r
 read_one p history mode asked plate =
     let status = letters_are_answers.status p history asked in

@@ -43,7 +43,7 @@ abbrev pub AreAllAnswers : List Answer → Type 0
 AreAllAnswers answers = AllByRecursion IsAnswer answers
 
 -- A reading says what is so of a scale of this plate and history, if this weight is asked for and this is answered.
-pub record IsReadingOf (p : PlateData) (history : History) (mode : line_answers.Mode) (asked : line_answers.Asked) (r : WeightAnswer) : Type 0 where
+pub record IsReadingOf (p : PlateData) (history : History) (mode : line_answers.Mode) (asked : line_answers.RequestOutcome) (r : WeightAnswer) : Type 0 where
   pub status : IsStatus p history asked r.status
   pub kind : IsKind p history mode r.kind
   pub motion : r.is_stable ≡ is_stable p history
@@ -62,7 +62,7 @@ AreAnswersTo p texts history answers = ⊥
 --     one      an answer with a weight is the bytes of a reading, which says what is so of the scale
 --     all      the answers to requests are the bytes of one answer to each
 pub record AnswersAreRead : Type 0 where
-  pub one : (p : PlateData) (history : History) (mode : line_answers.Mode) (asked : line_answers.Asked) → IsPlate p →
+  pub one : (p : PlateData) (history : History) (mode : line_answers.Mode) (asked : line_answers.RequestOutcome) → IsPlate p →
       (r : WeightAnswer) × IsAnswer (Weight r) × (line_answers.answer p history mode asked ≡ reading_bytes r) × IsReadingOf p history mode asked r
   pub all : (p : PlateData) (texts : List (List ℕ)) (history : History) → IsPlate p →
       (answers : List Answer) × AreAllAnswers answers × AreAnswersTo p texts history answers

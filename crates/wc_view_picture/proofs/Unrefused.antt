@@ -3,7 +3,7 @@ use Rattle.wc_model.proofs.Common.{◌≡◌, ℕ, List, Option, Ok, Err, Some, 
 use Rattle.wc_controller.proofs.EndedRuns.{run_ended}
 use Rattle.wc_controller.specs.{EndsAfter, EndsAfterFault, ReportsFailures, ReportsWriteFaults, ending_of, fault_ending, raised, status_of, Observed, RunsAs, RunsUpTo, InputStates}
 use Rattle.wc_job.specs.declared.input.Input.{Input}
-use Rattle.wc_controller.specs.declared.ending.Stopped.{Stopped}
+use Rattle.wc_controller.specs.declared.ending.InputFault.{InputFault}
 use Rattle.wc_model.specs.Definitions.{Record, Logic}
 use Rattle.wc_run.specs.declared.fault.RunFault.{RunFault}
 use Rattle.wc_run.specs.declared.fault.RunFault.TheVariants.{Refused, Read, Write, Memory}
@@ -18,7 +18,7 @@ unwritten_fault at Read = (refl, tt)
 unwritten_fault at Write = (refl, tt)
 unwritten_fault at Memory = (refl, tt)
 
-pub unwritten : (answer : Result (Unit {0}) Stopped) → EndsAfter answer (ending_of answer) None None
+pub unwritten : (answer : Result (Unit {0}) InputFault) → EndsAfter answer (ending_of answer) None None
 unwritten (Ok done) = (refl, tt)
 unwritten (Err stopped) = unwritten_fault stopped.input stopped.fault
 
@@ -29,11 +29,11 @@ fault_reported at Read old new h = (λ e. absurd (cc (e)), λ _. h)
 fault_reported at Write old new h = (λ _. h, λ no. absurd (no refl))
 fault_reported at Memory old new h = (λ e. absurd (omega (arith, ap status_of e)), λ _. h)
 
-write_reported : (answer : Result (Unit {0}) Stopped) (old new : ℕ) → ReportsWriteFaults (raised answer) old new → ReportsFailures (ending_of answer) old new
+write_reported : (answer : Result (Unit {0}) InputFault) (old new : ℕ) → ReportsWriteFaults (raised answer) old new → ReportsFailures (ending_of answer) old new
 write_reported (Ok done) old new h = (λ e. absurd (omega (arith, ap status_of e)), λ _. h)
 write_reported (Err stopped) old new h = fault_reported stopped.input stopped.fault old new h
 
-pub run_unrefused : (o : Observed) (before after : InputStates) (reported : Record) (answer : Result (Unit {0}) Stopped) (old new : ℕ)
+pub run_unrefused : (o : Observed) (before after : InputStates) (reported : Record) (answer : Result (Unit {0}) InputFault) (old new : ℕ)
     → RunsUpTo o before after reported answer (unsaid old) (unsaid new) → RunsAs o before after reported (ending_of answer) (unsaid old) (unsaid new)
 run_unrefused o before after reported answer old new h =
     run_ended o before after reported answer (ending_of answer) (unsaid old) (unsaid new) (unsaid new) h (unwritten answer) (write_reported answer old new h.failures)

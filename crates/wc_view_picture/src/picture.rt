@@ -12,7 +12,7 @@ use wc_cost::Loaded;
 use wc_model::{ByteOut, Outputs};
 use wc_plate::Plate;
 use wc_record::HeadKind;
-use wc_run::{Observer, Program, RowSeen, RunFault, Scale, write_text};
+use wc_run::{LogScale, Observer, Program, RowSeen, RunFault, write_text};
 use wc_store::SlotStore;
 use wc_view_columns::{Column, Events, State, TimeLine, Tracker};
 use wc_view_watch::WatchedNames;
@@ -110,7 +110,7 @@ impl<'n> Picture<'n> {
     }
 
     /// The numbers of the variables that are drawn.
-    fn numbers(&self, scale: &Scale<'_, SlotStore>) -> [Option<i64>; 4]
+    fn numbers(&self, scale: &LogScale<'_, SlotStore>) -> [Option<i64>; 4]
         ensures { (plate : PlateData) (logic : Option Logic) (past : Past)
             → Represents scale.now plate logic past
             → AreNamesOf (list_of self.now) self.now.names (logic_after plate logic past)
@@ -124,7 +124,11 @@ impl<'n> Picture<'n> {
     }
 
     /// Keeps what a row brought.
-    fn follow(&mut self, seen: &RowSeen<'_>, scale: &Scale<'_, SlotStore>) -> Result<(), AllocError>
+    fn follow(
+        &mut self,
+        seen: &RowSeen<'_>,
+        scale: &LogScale<'_, SlotStore>,
+    ) -> Result<(), AllocError>
         ensures seen { OnOk result ((plate : PlateData) (logic : Option Logic) (past : Past)
             → IsShown seen.now plate logic past
             → Represents scale.now plate logic (row_of seen.now ∷ past)
@@ -193,7 +197,7 @@ impl<W: ByteOut> Observer<SlotStore, W> for Picture<'_> {
     fn see(
         &mut self,
         seen: &RowSeen<'_>,
-        scale: &Scale<'_, SlotStore>,
+        scale: &LogScale<'_, SlotStore>,
         _writer: &mut W,
     ) -> Result<(), RunFault> {
         Ok(self.follow(seen, scale)?)

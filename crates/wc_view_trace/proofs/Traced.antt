@@ -11,7 +11,7 @@ use Rattle.wc_run.specs.declared.fault.RunFault.{RunFault}
 use Rattle.wc_run.specs.declared.program.Program.{Program}
 use Rattle.wc_run.specs.declared.row_seen.RowSeen.{RowSeen}
 use Rattle.wc_run.specs.declared.row_seen.ScanSeen.{ScanSeen}
-use Rattle.wc_run.specs.declared.scale.Scale.{Scale}
+use Rattle.wc_run.specs.declared.log_scale.LogScale.{LogScale}
 use Rattle.wc_view_trace.specs.Traces.{IsChosen, HasTraced, IsEndOf, IsScanIn, IsShownScan, ShowsScan, Texts, TracesEnd, TracesRow, TracesScans, Tracing, counted_on, counted_with, is_changed, is_changed_with, scans_of_row, scans_so_far, texts_after, texts_with}
 use Rattle.wc_view_trace.specs.Tracers.{FitsNext, FitsRunning, Follows, IsFresh, IsLegendFor, IsSame, IsShownAs, IsTracing, Looks, PutsItems, PutsScan, ShowsAs, Turns, tracing_of}
 use Rattle.wc_view_trace.specs.declared.tracing.TraceFormat.{TraceFormat}
@@ -229,7 +229,7 @@ module _ (t : Tracing) (start : Start) (plate : PlateData) (first : Logic) (past
         )
 
 -- the machine of a scale runs the logic after the rows
-pub runs_logic : {S : Type 0} (scale : Scale S) (plate : PlateData) (logic : Option Logic) (past : Past) → Represents scale plate logic past
+pub runs_logic : {S : Type 0} (scale : LogScale S) (plate : PlateData) (logic : Option Logic) (past : Past) → Represents scale plate logic past
     → IsRunning scale.opened.machine (program_of (logic_after plate logic past))
 runs_logic scale plate logic past represents = represents.opened.program
 

@@ -7,7 +7,7 @@ use Rattle.std.specs.Io.KnownBytes.{Appends}
 use Rattle.wc_machine.specs.Machines.{MachineState, RepresentsText}
 use Rattle.wc_model.specs.Definitions.{PlateData, LogRefusal, Change, LogRow, Past, RowData, Logic, logic_following, ReportLine, ScanLine, is_scan_line}
 use Rattle.wc_run.specs.{lines_of_row, AreItems, Start, onto}
-use Rattle.wc_view_trace.specs.declared.tracing.Chosen.{Chosen}
+use Rattle.wc_view_trace.specs.declared.tracing.ScanFilter.{ScanFilter}
 use Rattle.wc_view_trace.specs.declared.tracing.TraceFormat.{TraceFormat}
 use Rattle.wc_view_trace_rows.specs.{IsLegendOf, none_chosen}
 use Rattle.wc_view_trace_rows.specs.declared.legend.Legend.{Legend}
@@ -18,15 +18,15 @@ abbrev pub IsBetween : Option ℕ → Option ℕ → ℕ → Type 0
 IsBetween from to ms = IfSome from (λ first. first ≤ ms) × IfSome to (λ last. ms ≤ last)
 
 -- the scan of that number and moment meets each condition that is given
-abbrev pub IsChosen : Chosen → ℕ → ℕ → Type 0
+abbrev pub IsChosen : ScanFilter → ℕ → ℕ → Type 0
 IsChosen chosen number ms = IfSome chosen.at (λ at. ms ≡ at) × (IfSome chosen.scan (λ scan. number ≡ scan) × IsBetween chosen.from chosen.to ms)
 
 -- which scans are shown, and in which format
 pub record Tracing : Type 0 where
-  pub chosen : Chosen
+  pub chosen : ScanFilter
   pub format : TraceFormat
 
-abbrev pub tracing : Chosen → TraceFormat → Tracing
+abbrev pub tracing : ScanFilter → TraceFormat → Tracing
 tracing chosen format = record { chosen = chosen; format = format }
 
 -- one more, as far as 32 bits count

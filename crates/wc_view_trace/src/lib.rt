@@ -10,4 +10,4 @@ mod tracer;
 mod tracing;
 
 pub use scans::{put_end_object, put_object};
-pub use tracing::{Chosen, TraceFormat, trace_files};
+pub use tracing::{ScanFilter, TraceFormat, trace_files};

@@ -4,12 +4,12 @@ ghost use Rattle.wc_view_trace.specs.Traces.{IsEndOf, counted_on};
 ghost use Rattle.wc_view_trace.specs.Tracers.{CountsAs, Follows, IsFresh, IsLegendFor, IsSame, PutsItems, PutsScan, ShowsAs, Turns};
 
 use crate::scans::{put_end_object, put_object};
-use crate::tracing::{Chosen, TraceFormat};
+use crate::tracing::{ScanFilter, TraceFormat};
 use std::alloc::Global;
 use wc_machine::Machine;
 use wc_model::ByteOut;
 use wc_record::HeadKind;
-use wc_run::{Observer, Program, RowSeen, RunFault, Scale, ScanSeen, write_text};
+use wc_run::{LogScale, Observer, Program, RowSeen, RunFault, ScanSeen, write_text};
 use wc_store::SlotStore;
 use wc_view_trace_rows::{Legend, ShownScan, put_none_chosen, put_scan};
 
@@ -17,7 +17,7 @@ use wc_view_trace_rows::{Legend, ShownScan, put_none_chosen, put_scan};
 #[derive(Drop)]
 pub(crate) struct Tracer {
     alloc: Global,
-    chosen: Chosen,
+    chosen: ScanFilter,
     format: TraceFormat,
     legend: Option<Legend>,
     next: Option<Legend>,
@@ -40,7 +40,7 @@ fn legend_of(alloc: Global, program: Option<Program<'_, '_>>) -> Result<Option<L
 
 impl Tracer {
     /// Before the first scan.
-    pub(crate) fn new(alloc: Global, chosen: Chosen, format: TraceFormat) -> Tracer
+    pub(crate) fn new(alloc: Global, chosen: ScanFilter, format: TraceFormat) -> Tracer
         ensures chosen { result.chosen ≡ chosen }
         ensures format { result.format ≡ format }
         ensures fresh { IsFresh result }
@@ -119,7 +119,11 @@ impl Tracer {
     }
 
     /// Makes the text of a row: that of its scan, if it is chosen.
-    fn follow(&mut self, seen: &RowSeen<'_>, scale: &Scale<'_, SlotStore>) -> Result<(), RunFault>
+    fn follow(
+        &mut self,
+        seen: &RowSeen<'_>,
+        scale: &LogScale<'_, SlotStore>,
+    ) -> Result<(), RunFault>
         ensures same { IsSame self.old self.new }
         ensures legends { ShowsAs self.old self.new }
         ensures follows { OnOk result (Follows self.old self.new scale.now.opened.machine
@@ -191,7 +195,7 @@ impl<W: ByteOut> Observer<SlotStore, W> for Tracer {
     fn see(
         &mut self,
         seen: &RowSeen<'_>,
-        scale: &Scale<'_, SlotStore>,
+        scale: &LogScale<'_, SlotStore>,
         writer: &mut W,
     ) -> Result<(), RunFault> {
         self.turn(seen);

@@ -19,7 +19,7 @@ pub enum TraceFormat {
 
 /// Which scans of a run are shown: those that meet each condition that is given, and all if none is.
 #[derive(Clone, Copy)]
-pub struct Chosen {
+pub struct ScanFilter {
     /// The moment of the scan in milliseconds.
     pub at: Option<u64>,
     /// The number of the scan among those of the run, counted from 1.
@@ -30,7 +30,7 @@ pub struct Chosen {
     pub to: Option<u64>,
 }
 
-impl Chosen {
+impl ScanFilter {
     /// Whether the scan of that number and moment is shown.
     pub fn has(&self, number: u32, ms: u64) -> bool
         ensures chosen { result ≡ true → IsChosen self.now number ms }
@@ -50,7 +50,7 @@ impl Chosen {
 /// of memory end the run, as they end that of a report, and nothing is said of what was written before them.
 pub fn trace_files<P: ByteIn, T: ByteIn, N: ByteIn, L: ByteIn, W: ByteOut>(
     alloc: Global,
-    chosen: Chosen,
+    chosen: ScanFilter,
     format: TraceFormat,
     inputs: &mut RunInputs<P, T, N, L>,
     writer: &mut W,

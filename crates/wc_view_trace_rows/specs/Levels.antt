@@ -11,7 +11,7 @@ use Rattle.wc_view_trace_rows.specs.Legends.{kind_at, literal_kind, note_of}
 use Rattle.wc_view_trace_rows.specs.declared.legend.Legend.{Legend}
 use Rattle.wc_view_trace_rows.specs.declared.levels.BodyLevel.{BodyLevel}
 use Rattle.wc_view_trace_rows.specs.declared.levels.Levels.{Levels}
-use Rattle.wc_view_trace_rows.specs.declared.levels.Said.{Said}
+use Rattle.wc_view_trace_rows.specs.declared.levels.ItemNotes.{ItemNotes}
 use Rattle.wc_view_trace_rows.specs.declared.notes.Note.{Note}
 
 -- the level of a body: the kind of its result, the kinds of the results that are put by, newest first, and the number of items of the
@@ -74,7 +74,7 @@ note_said legend line items (Standard block at) = note_of legend line 0
 note_said legend line items code = None
 
 -- what is said of a line that was passed
-abbrev pub said_of : Legend → SeenLine → Level → Said
+abbrev pub said_of : Legend → SeenLine → Level → ItemNotes
 said_of legend seen level = record {
   result = level.kind;
   written = written_kind legend seen.base seen.line;

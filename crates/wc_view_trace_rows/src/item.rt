@@ -1,4 +1,4 @@
-use crate::levels::Said;
+use crate::levels::ItemNotes;
 use wc_machine::SeenLine;
 
 /// An item that a scan executed, with what is known of it from the text.
@@ -7,7 +7,7 @@ pub struct Item {
     /// What is seen of it.
     pub seen: SeenLine,
     /// What the text says of it.
-    pub said: Said,
+    pub said: ItemNotes,
     /// Whether it is the body of a standard block that the scan does not call again, so that the
     /// outputs after it are those that the scan leaves.
     pub is_last_call: bool,

@@ -27,7 +27,7 @@ pub(crate) struct Levels {
 /// What is said of a row besides its numbers: the kind of the result, the kind of what is written, and the note of the
 /// place to which it is written, or of the instance that is called.
 #[derive(Clone, Copy)]
-pub struct Said {
+pub struct ItemNotes {
     pub result: Option<Kind>,
     pub written: Option<Kind>,
     pub note: Option<Note>,
@@ -132,7 +132,7 @@ impl Levels {
         alloc: Global,
         legend: &Legend,
         seen: &SeenLine,
-    ) -> Result<Said, Fault>
+    ) -> Result<ItemNotes, Fault>
         ensures says { IfOk result (λ said. said
             ≡ said_of legend.now seen.now (level_left legend.now seen.now (levels_view self.old))) }
         ensures follows { OnOk result
@@ -142,7 +142,7 @@ impl Levels {
         self.go_to(alloc, seen.depth)?;
         let level = &mut self.levels[seen.depth as usize];
         level.pass(legend, seen)?;
-        Ok(Said {
+        Ok(ItemNotes {
             result: level.kind,
             written: written_kind(legend, seen),
             note: note_said(legend, seen, level.items),

@@ -18,7 +18,7 @@ mod steps;
 pub use item::Item;
 pub use items::Items;
 pub use legend::Legend;
-pub use levels::Said;
+pub use levels::ItemNotes;
 pub use notes::Note;
 pub use outputs::{BlockOutput, number_in, outputs_of, value_of};
 pub use rows::{is_argument, put_scan};

@@ -5,7 +5,7 @@ use Rattle.wc_machine.specs.Machines.{MachineState}
 use Rattle.wc_model.specs.Definitions.{PlateData, Text, Past, Logic}
 use Rattle.wc_run.specs.{logic_after, IsShown, row_of, IsRunning, Represents, program_of}
 use Rattle.wc_run.specs.declared.row_seen.RowSeen.{RowSeen}
-use Rattle.wc_run.specs.declared.scale.Scale.{Scale}
+use Rattle.wc_run.specs.declared.log_scale.LogScale.{LogScale}
 use Rattle.wc_text_variables.specs.Names.{variable_named}
 use Rattle.wc_view_watch.specs.Plans.{last_values, scans_so_far, IsFirstUnknown, names_in}
 use Rattle.wc_view_watch.specs.Ring.{RingState, HoldsLast}
@@ -62,7 +62,7 @@ abbrev pub HasRefused : List ℕ → WatchedNames → Option Logic → Type 0
 HasRefused list names logic = (name : UnknownName) × (names.unknown ≡ Some name) × IsFirstUnknown list logic name
 
 -- so at a row that is shown, if the names are those of the logic after it, and the last scans and the values are those of the rows before it
-abbrev pub OfRow : {S : Type 0} → Watcher → RowSeen → Scale S → (PlateData → Option Logic → Past → Type 0) → Type 0
+abbrev pub OfRow : {S : Type 0} → Watcher → RowSeen → LogScale S → (PlateData → Option Logic → Past → Type 0) → Type 0
 OfRow watcher seen scale P =
     (plate : PlateData) (logic : Option Logic) (past : Past) → IsShown seen plate logic past → Represents scale plate logic (row_of seen ∷ past)
     → FitLogic watcher.names watcher.list.now (logic_after plate logic (row_of seen ∷ past)) → KeepsLast watcher.last watcher.number (scans_so_far watcher.list.now watcher.changes plate logic past)

@@ -6,7 +6,7 @@ ghost use Rattle.wc_model.specs.Run.JobSections.{longest_job};
 ghost use Rattle.wc_view_watch.specs.Previews.{AnswersNew, AnswersPreview, IsOfWriting, IsPreview};
 
 use std::alloc::Global;
-use wc_controller::{Ending, Input, RunFault, Stopped, end, load, read_input, text_of_units};
+use wc_controller::{Ending, Input, InputFault, RunFault, end, load, read_input, text_of_units};
 use wc_cost::Loaded;
 use wc_model::{ByteIn, ByteOut, write_whole};
 use wc_view_changes::changes;
@@ -37,7 +37,7 @@ fn write_preview<W: ByteOut>(
     old: &Loaded<'_>,
     new: &Loaded<'_>,
     writer: &mut W,
-) -> Result<(), Stopped>
+) -> Result<(), InputFault>
     ensures writes { WritesUpTo (IsPreview paths old.now.source new.now.source)
         (raised result) (W.bytes_taken writer.old) (W.bytes_taken writer.new) }
     // No input is refused here, and none is read.
@@ -47,9 +47,9 @@ fn write_preview<W: ByteOut>(
         (W.failure_count writer.new) }
 {
     let input = Input::Next;
-    let text = preview_text(alloc, paths, old, new).map_err(|fault| Stopped { input, fault })?;
+    let text = preview_text(alloc, paths, old, new).map_err(|fault| InputFault { input, fault })?;
     let fault = RunFault::Write;
-    write_whole(writer, &text).map_err(|_| Stopped { input, fault })
+    write_whole(writer, &text).map_err(|_| InputFault { input, fault })
 }
 
 /// Loads the new program after the old one, and writes what is reported about both.
@@ -59,7 +59,7 @@ fn preview_next<W: ByteOut>(
     old: &Loaded<'_>,
     text: &[u8],
     writer: &mut W,
-) -> Result<(), Stopped>
+) -> Result<(), InputFault>
     ensures writes { WritesUpTo (AnswersNew paths old.now.source text.now)
         (raised result) (W.bytes_taken writer.old) (W.bytes_taken writer.new) }
     ensures blames { IfErr result (λ stopped. stopped.input ≡ Input.Next
@@ -71,7 +71,7 @@ fn preview_next<W: ByteOut>(
 {
     match load(alloc, text) {
         Ok(new) => write_preview(alloc, paths, old, &new, writer),
-        Err(fault) => Err(Stopped {
+        Err(fault) => Err(InputFault {
             input: Input::Next,
             fault: RunFault::from(fault),
         }),
@@ -85,7 +85,7 @@ fn preview_inputs<T: ByteIn, N: ByteIn, W: ByteOut>(
     program: &mut T,
     next: &mut N,
     writer: &mut W,
-) -> Result<(), Stopped>
+) -> Result<(), InputFault>
     ensures writes { IfSome (T.bytes_left program.old) (λ text. IfSome (N.bytes_left next.old)
         (λ other. WritesUpTo (AnswersPreview paths text other) (raised result)
         (W.bytes_taken writer.old) (W.bytes_taken writer.new))) }
@@ -112,7 +112,7 @@ fn preview_inputs<T: ByteIn, N: ByteIn, W: ByteOut>(
     let loaded = match load(alloc, &text) {
         Ok(loaded) => loaded,
         Err(fault) => {
-            return Err(Stopped {
+            return Err(InputFault {
                 input: Input::Program,
                 fault: RunFault::from(fault),
             });

@@ -12,7 +12,7 @@ use std::alloc::Global;
 use wc_machine::Machine;
 use wc_model::{ByteOut, Fault, put_bytes};
 use wc_record::Record;
-use wc_run::{Observer, Program, RowSeen, RunFault, Scale, put_answer, put_record, write_text};
+use wc_run::{LogScale, Observer, Program, RowSeen, RunFault, put_answer, put_record, write_text};
 use wc_store::SlotStore;
 
 /// The number of bytes the line of a scan has at most, and the number each name has at most besides its own.
@@ -144,7 +144,11 @@ impl<'n> Watcher<'n> {
     }
 
     /// Puts what is written of a row.
-    fn put_row(&mut self, seen: &RowSeen<'_>, scale: &Scale<'_, SlotStore>) -> Result<(), RunFault>
+    fn put_row(
+        &mut self,
+        seen: &RowSeen<'_>,
+        scale: &LogScale<'_, SlotStore>,
+    ) -> Result<(), RunFault>
         ensures same { WatchesAs self.old self.new }
         ensures names { self.new.names ≡ self.old.names }
         ensures text { OnOk result (OfRow self.old seen.now scale.now (λ plate logic past.
@@ -223,7 +227,7 @@ impl<W: ByteOut> Observer<SlotStore, W> for Watcher<'_> {
     fn see(
         &mut self,
         seen: &RowSeen<'_>,
-        scale: &Scale<'_, SlotStore>,
+        scale: &LogScale<'_, SlotStore>,
         writer: &mut W,
     ) -> Result<(), RunFault> {
         self.names.turn(seen);

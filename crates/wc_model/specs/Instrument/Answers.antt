@@ -40,10 +40,10 @@ pub data Mode : Type 0 where
   Tare : Mode
 
 -- what the answer is to: a command that was refused, or anything else
-pub data Asked : Type 0 where
-  Plain : Asked
-  ZeroRefused : Asked
-  TareRefused : Asked
+pub data RequestOutcome : Type 0 where
+  Plain : RequestOutcome
+  ZeroRefused : RequestOutcome
+  TareRefused : RequestOutcome
 
 -- the status of the scale: the first that holds
 abbrev pub scale_status : PlateData → History → List ℕ
@@ -55,7 +55,7 @@ scale_status p history =
     else codes " "
 
 -- the status of an answer: a refusal goes before the scale's
-abbrev pub status_byte : PlateData → History → Asked → List ℕ
+abbrev pub status_byte : PlateData → History → RequestOutcome → List ℕ
 status_byte p history Plain = scale_status p history
 status_byte p history ZeroRefused = codes "E"
 status_byte p history TareRefused = codes "T"
@@ -75,7 +75,7 @@ weight_asked p history Shown = shown p history
 weight_asked p history Tare = if is_valid p history then Some (tare_value p history) else None
 
 -- the twenty bytes: LF, status, `1`, mode, motion, space, weight, unit, CR
-abbrev pub answer : PlateData → History → Mode → Asked → List ℕ
+abbrev pub answer : PlateData → History → Mode → RequestOutcome → List ℕ
 answer p history mode asked =
     10 ∷ status_byte p history asked ++ codes "1" ++ mode_byte p history mode ++ motion_byte p history ++ codes " "
     ++ weight_text p.decimals (weight_asked p history mode) ++ p.unit ++ (13 ∷ [])
@@ -109,11 +109,11 @@ after_command Clear history = ClearTare ∷ history
 after_command Unknown history = history
 
 -- what an answer to a zero command says
-abbrev pub asked_zero : PlateData → History → Asked
+abbrev pub asked_zero : PlateData → History → RequestOutcome
 asked_zero p history = if is_some (zero_refusal p history) then ZeroRefused else Plain
 
 -- what an answer to a tare command says
-abbrev pub asked_tare : PlateData → History → Asked
+abbrev pub asked_tare : PlateData → History → RequestOutcome
 asked_tare p history = if is_some (tare_refusal p history) then TareRefused else Plain
 
 -- the one answer to a command: the indication after it, and whether it was refused by what came before it

@@ -47,7 +47,7 @@ abbrev pub number_at : Table → List ℕ → Option ℤ
 number_at table key = option_and_then number_in (entry_at table key)
 
 -- the values of the seven keys, before they are checked
-pub record Written : Type 0 where
+pub record KeyValues : Type 0 where
   pub unit : List ℕ
   pub decimals : ℤ
   pub max : ℤ
@@ -62,7 +62,7 @@ abbrev pub ◌>>=◌ : {A B : Type 0} → Option A → (A → Option B) → Opti
 o >>= f = option_and_then f o
 
 -- each of the seven keys in its kind
-abbrev pub each_key : Table → Option Written
+abbrev pub each_key : Table → Option KeyValues
 each_key table = do
   unit ← text_at table (codes "unit")
   decimals ← number_at table (codes "decimals")
@@ -74,7 +74,7 @@ each_key table = do
   Some (record { unit = unit; decimals = decimals; max = max; e = e; zero_counts = zero_counts; span_counts = span_counts; window = window })
 
 -- the seven keys in their kinds, if there is no other key
-abbrev pub written_of : Table → Option Written
+abbrev pub written_of : Table → Option KeyValues
 written_of table = if has_no_other_key table then each_key table else None
 
 -- the line's three bytes for a unit as a plate writes it
@@ -100,7 +100,7 @@ abbrev pub is_count : ℤ → ℤ → Bool
 is_count max e = int_le (int_rem max e) (pos 0) && is_between (pos 500) (pos 10000) (int_div max e)
 
 -- the rules from the number of decimals on, in the order of their numbers, each with whether it holds
-abbrev pub rules_after_unit : Written → List ℕ → List (ℕ × Bool)
+abbrev pub rules_after_unit : KeyValues → List ℕ → List (ℕ × Bool)
 rules_after_unit w unit =
     (504, is_between (pos 0) (pos 3) w.decimals)
     ∷ (505, is_interval unit (unsigned_abs w.decimals) w.e)
@@ -110,7 +110,7 @@ rules_after_unit w unit =
     ∷ []
 
 -- the plate of what is written, with the line's bytes of its unit
-abbrev pub plate_from : Written → List ℕ → PlateData
+abbrev pub plate_from : KeyValues → List ℕ → PlateData
 plate_from w unit = record {
   unit = unit;
   decimals = unsigned_abs w.decimals;
@@ -128,12 +128,12 @@ unless_broken None plate = Ok plate
 unless_broken (Some rule) plate = Err rule.0
 
 -- the plate of what is written, or the first broken rule
-abbrev pub validated : Written → Option (List ℕ) → Result PlateData ℕ
+abbrev pub validated : KeyValues → Option (List ℕ) → Result PlateData ℕ
 validated w None = Err 503
 validated w (Some unit) = unless_broken (find (λ rule. not rule.1) (rules_after_unit w unit)) (plate_from w unit)
 
 -- the same, if all keys are there in their kinds
-abbrev pub plate_of_written : Option Written → Result PlateData ℕ
+abbrev pub plate_of_written : Option KeyValues → Result PlateData ℕ
 plate_of_written None = Err 502
 plate_of_written (Some w) = validated w (line_unit w.unit)
 

@@ -18,8 +18,8 @@ use Rattle.wc_model.specs.declared.operator.Direction.{Direction}
 use Rattle.wc_model.specs.declared.operator.Direction.TheVariants.{Into, OutOf}
 use Rattle.wc_model.specs.declared.operator.Operator.{Operator}
 use Rattle.wc_model.specs.declared.operator.Operator.TheVariants.{And, Andn, Or, Orn, Xor, Xorn, Add, Sub, Mul, Div, Mod, Gt, Ge, Eq, Ne, Le, Lt}
-use Rattle.wc_model.specs.declared.operator.Storing.{Storing}
-use Rattle.wc_model.specs.declared.operator.Storing.TheVariants.{Result as StoreResult, Negation, Set, Reset}
+use Rattle.wc_model.specs.declared.operator.StoreKind.{StoreKind}
+use Rattle.wc_model.specs.declared.operator.StoreKind.TheVariants.{Result as StoreResult, Negation, Set, Reset}
 use Rattle.wc_model.specs.declared.source.Section.{Section}
 use Rattle.wc_model.specs.declared.value.Value.TheVariants.{Dint}
 
@@ -124,7 +124,7 @@ abbrev pub suits_target : Scope → Term → Option Kind → Bool
 suits_target scope target None = false
 suits_target scope target (Some kind) = is_of (is_kind kind) (term_kind scope target)
 
-abbrev pub store_checks : Scope → ℕ → Storing → Term → Option Kind → List Check
+abbrev pub store_checks : Scope → ℕ → StoreKind → Term → Option Kind → List Check
 store_checks scope line StoreResult target kind = writing_checks scope line target ++ has_result line kind ∷ asks 402 line (suits_target scope target kind) ∷ []
 store_checks scope line Negation target kind = writing_checks scope line target ++ truth_checks line kind ++ asks 402 line (suits_target scope target kind) ∷ []
 store_checks scope line Set target kind = writing_checks scope line target ++ truth_checks line kind ++ asks 402 line (suits_target scope target kind) ∷ []

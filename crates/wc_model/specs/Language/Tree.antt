@@ -5,7 +5,7 @@ use Rattle.wc_model.specs.declared.operator.Condition.{Condition}
 use Rattle.wc_model.specs.declared.operator.Direction.{Direction}
 use Rattle.wc_model.specs.declared.operator.Direction.TheVariants.{Into, OutOf}
 use Rattle.wc_model.specs.declared.operator.Operator.{Operator}
-use Rattle.wc_model.specs.declared.operator.Storing.{Storing}
+use Rattle.wc_model.specs.declared.operator.StoreKind.{StoreKind}
 use Rattle.wc_model.specs.declared.source.Initial.{Initial}
 use Rattle.wc_model.specs.declared.source.Section.{Section}
 use Rattle.wc_model.specs.declared.source.UnitKind.{UnitKind}
@@ -43,7 +43,7 @@ outputs_of list = filter (λ assignment. not (goes_in assignment)) list
 -- what a line does that opens no parenthesis
 pub data Step : Type 0 where
   Load : (negated : Bool) (operand : Term) → Step
-  Store : (storing : Storing) (target : Term) → Step
+  Store : (storing : StoreKind) (target : Term) → Step
   Apply : (operator : Operator) (operand : Term) → Step
   Negate : Step
   Jump : (condition : Condition) (label : Name) → Step

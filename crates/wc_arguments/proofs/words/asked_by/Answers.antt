@@ -13,15 +13,15 @@ faults found = option_to_list (option_map (λ fault. fault.0) found)
 pub returns-in-Err-clause-refused : goal.returns-in-Err-clause-refused
 returns-in-Err-clause-refused c = among _ _ c.in-Err.error c.in-Err.ensures.refused
 
-pub returns-in_ok-error-in-Some-misused-clause-refused : goal.returns-in_ok-error-in-Some-misused-clause-refused
-returns-in_ok-error-in-Some-misused-clause-refused c =
-    refused_option (texts_of c.args.words.now) c.in-Some.format (view c.in-Ok.read.0) c.in_ok-error-in-Some-misused.field-0 _ c.in-Ok.ensures.refused (sym c.in-Some.is ∙ c.in-Ok.ensures.format) c.in-Ok.ensures.asked
-    (ap faults (sym c.in-Some-misused.is) ∙ c.misused.ensures) c.in_ok-error-in-Some-misused.ensures.kind
+pub returns-in_ok-error-in-Some-usage_fault-clause-refused : goal.returns-in_ok-error-in-Some-usage_fault-clause-refused
+returns-in_ok-error-in-Some-usage_fault-clause-refused c =
+    refused_option (texts_of c.args.words.now) c.in-Some.format (view c.in-Ok.read.0) c.in_ok-error-in-Some-usage_fault.field-0 _ c.in-Ok.ensures.refused (sym c.in-Some.is ∙ c.in-Ok.ensures.format) c.in-Ok.ensures.asked
+    (ap faults (sym c.in-Some-usage_fault.is) ∙ c.usage_fault.ensures) c.in_ok-error-in-Some-usage_fault.ensures.kind
 
-pub returns-in-None-misused-clause-refused : goal.returns-in-None-misused-clause-refused
-returns-in-None-misused-clause-refused c =
+pub returns-in-None-usage_fault-clause-refused : goal.returns-in-None-usage_fault-clause-refused
+returns-in-None-usage_fault-clause-refused c =
     not_refused (texts_of c.args.words.now) c.in-Some.format (view c.in-Ok.read.0) c.in-Ok.ensures.refused (sym c.in-Some.is ∙ c.in-Ok.ensures.format) c.in-Ok.ensures.asked
-    (ap faults (sym c.in-None-misused.is) ∙ c.misused.ensures)
+    (ap faults (sym c.in-None-usage_fault.is) ∙ c.usage_fault.ensures)
 
 pub returns-in_ok-error-in-None-clause-refused : goal.returns-in_ok-error-in-None-clause-refused
 returns-in_ok-error-in-None-clause-refused c =

@@ -3,7 +3,7 @@ use Rattle.wc_controller.proofs.Allowing.{file_not_read, file_read, of_known, to
 use Rattle.wc_controller.proofs.Givings.{checked}
 use Rattle.wc_controller.proofs.checking.check_input.Goals as goal
 use Rattle.wc_controller.specs.{Checks, WritesUpTo, raised, AnswersCheck, AnswersCheckFile}
-use Rattle.wc_controller.specs.declared.ending.Stopped.{Stopped}
+use Rattle.wc_controller.specs.declared.ending.InputFault.{InputFault}
 use Rattle.wc_run.proofs.HandedOn.{propagated}
 use Rattle.std.specs.Prelude.{IfSome, Some, None}
 
@@ -31,5 +31,5 @@ returns-in_err-text-clause-writes g c =
     let taken = g.W.ByteOut.bytes_taken c.args.writer.now in
     let known = g.T.ByteIn.bytes_left c.args.program.now in
     let stopped = c.in_err-text.field-0.0 in
-    propagated (λ (r : Result (Unit {0}) Stopped). IfSome known (λ bytes. WritesUpTo (AnswersCheckFile c.args.paths bytes) (raised r) taken taken)) stopped c.from_residual.result c.from_residual.ensures
+    propagated (λ (r : Result (Unit {0}) InputFault). IfSome known (λ bytes. WritesUpTo (AnswersCheckFile c.args.paths bytes) (raised r) taken taken)) stopped c.from_residual.result c.from_residual.ensures
     (file_not_read known _ stopped.fault (λ bytes longer. too_long_file bytes (AnswersCheck c.args.paths bytes) stopped.fault taken longer) c.in_err-text.ensures.too_long)

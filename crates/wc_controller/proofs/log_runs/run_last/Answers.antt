@@ -13,9 +13,9 @@ returns-in-Err-clause-line g c =
     on_each (g.R.ByteIn.bytes_left c.args.reader.now) _
     (λ bytes logic represents.
     let log : LogOf = log_for logic (log_of (records_of bytes)) in
-    run_leaves (Some c.args.last) c.args.plate.now logic log (Err c.classified.result) taken taken
-    (none_reported (Some c.args.last) c.args.plate.now logic log c.classified.result taken
-    (subst (λ fault. IsClassified fault c.classified.result) c.in-Err.ensures.memory c.classified.ensures.classified)))
+    run_leaves (Some c.args.last) c.args.plate.now logic log (Err c.classify.result) taken taken
+    (none_reported (Some c.args.last) c.args.plate.now logic log c.classify.result taken
+    (subst (λ fault. IsClassified fault c.classify.result) c.in-Err.ensures.memory c.classify.ensures.classified)))
 
 pub returns-clause-line : goal.returns-clause-line
 returns-clause-line g c =
@@ -23,9 +23,9 @@ returns-clause-line g c =
     on_each (g.R.ByteIn.bytes_left c.args.reader.now) _
     (λ bytes logic represents.
     let log : LogOf = log_for logic (log_of (records_of bytes)) in
-    run_leaves (Some c.args.last) c.args.plate.now logic log (Err c.classified-in-Err-new.result) taken taken
-    (none_reported (Some c.args.last) c.args.plate.now logic log c.classified-in-Err-new.result taken
-    (subst (λ fault. IsClassified fault c.classified-in-Err-new.result) c.in-Err-new.ensures.memory c.classified-in-Err-new.ensures.classified)))
+    run_leaves (Some c.args.last) c.args.plate.now logic log (Err c.classify-in-Err-new.result) taken taken
+    (none_reported (Some c.args.last) c.args.plate.now logic log c.classify-in-Err-new.result taken
+    (subst (λ fault. IsClassified fault c.classify-in-Err-new.result) c.in-Err-new.ensures.memory c.classify-in-Err-new.ensures.classified)))
 
 pub returns-in-Ok-new-clause-reports : goal.returns-in-Ok-new-clause-reports
 returns-in-Ok-new-clause-reports g c =

@@ -123,11 +123,11 @@ returns-clause-runs g c =
     c.in-Some.text.items (subst (λ (text : Option _). AreReadOf (program c.inputs.inside.program) (option_map (λ held. held.items) text)) c.in-Some.is read.whole)
     first (subst (λ text. IsLoaded text first) c.deref.ensures.value c.in-Ok-load_input.ensures.loaded)
     (next c.read_optional-2.new.reader) held other.whole (other.failures.1 (λ none. none)) other.taken
-    (subst (λ (known : Option (List ℕ)). IfSome old.bytes (λ bytes. WritesUpTo (AnswersNext known (AnswersPrinting observed c.in-Ok.plate (log_of (records_of bytes)) first)) (raised result) taken_before taken_after)) c.borrowed.ensures said.writes)
-    (subst (λ (known : Option (List ℕ)). IfErr result (λ stopped. stopped.input ≡ input.Next → IsNextUnloaded known stopped.fault)) c.borrowed.ensures said.blames_next)
-    (subst (λ (known : Option (List ℕ)). StopsFor input.Log (RefusesLog (log_alongside (is_some known)) reported) old.bytes result) c.borrowed.ensures said.blames_log)
+    (subst (λ (known : Option (List ℕ)). IfSome old.bytes (λ bytes. WritesUpTo (AnswersNext known (AnswersPrinting observed c.in-Ok.plate (log_of (records_of bytes)) first)) (raised result) taken_before taken_after)) c.text_slice.ensures said.writes)
+    (subst (λ (known : Option (List ℕ)). IfErr result (λ stopped. stopped.input ≡ input.Next → IsNextUnloaded known stopped.fault)) c.text_slice.ensures said.blames_next)
+    (subst (λ (known : Option (List ℕ)). StopsFor input.Log (RefusesLog (log_alongside (is_some known)) reported) old.bytes result) c.text_slice.ensures said.blames_log)
     said.unread said.devices.names said.later said.held said.devices.read
-    (subst (λ (known : Option (List ℕ)). raised result ≡ Some fault.Memory → ReportsMemory (log_alongside (is_some known)) old.bytes old.failures new.failures old.spent new.spent) c.borrowed.ensures said.devices.memory)
+    (subst (λ (known : Option (List ℕ)). raised result ≡ Some fault.Memory → ReportsMemory (log_alongside (is_some known)) old.bytes old.failures new.failures old.spent new.spent) c.text_slice.ensures said.devices.memory)
     said.devices.reader said.devices.failures)
 
 pub returns-in-None-clause-refused : goal.returns-in-None-clause-refused
@@ -152,7 +152,7 @@ returns-clause-refused g c = λ at.
     (subst (λ (text : Option _). AreReadOf (program c.inputs.inside.program) (option_map (λ held. held.items) text)) c.in-Some.is c.in-Ok-read_optional.ensures.whole)
     c.in-Ok-read_optional-2.ensures.whole
     (subst (λ text. IsLoaded text first) c.deref.ensures.value c.in-Ok-load_input.ensures.loaded)
-    (subst (λ (known : Option (List ℕ)). OfLogic first known holds) c.borrowed.ensures (c.run_loaded.ensures.refused at)))
+    (subst (λ (known : Option (List ℕ)). OfLogic first known holds) c.text_slice.ensures (c.run_loaded.ensures.refused at)))
 
 pub returns-in-Err-clause-ended : goal.returns-in-Err-clause-ended
 returns-in-Err-clause-ended g c = λ at. absurd (one_input input.Plate input.Log c.in-Err.stopped.input c.in-Err.ensures.input at)
@@ -202,8 +202,8 @@ returns-clause-ended g c =
     (subst (λ (text : Option _). AreReadOf program (option_map (λ held. held.items) text)) c.in-Some.is c.in-Ok-read_optional.ensures.whole)
     c.in-Ok-read_optional-2.ensures.whole
     (subst (λ text. IsLoaded text first) c.deref.ensures.value c.in-Ok-load_input.ensures.loaded)
-    (subst (λ (known : Option (List ℕ)). OfLogic first known (of_log (start_with text known (taken c.args.writer.now)))) c.borrowed.ensures
-    (subst (λ all. OfLogic first (option_map (λ text. text.now) c.borrowed.result) (of_log (start_with all (option_map (λ text. text.now) c.borrowed.result) (taken c.args.writer.now)))) c.deref-2.ensures.value says))))
+    (subst (λ (known : Option (List ℕ)). OfLogic first known (of_log (start_with text known (taken c.args.writer.now)))) c.text_slice.ensures
+    (subst (λ all. OfLogic first (option_map (λ text. text.now) c.text_slice.result) (of_log (start_with all (option_map (λ text. text.now) c.text_slice.result) (taken c.args.writer.now)))) c.deref-2.ensures.value says))))
     c.run_loaded.ensures.ended)
 
 pub returns-in-Err-clause-unwritten : goal.returns-in-Err-clause-unwritten

@@ -7,4 +7,4 @@ printed-requires c = warning_prints c.args.text.now c.args.tokens.now c.args.war
 
 pub returns-clause-all : goal.returns-clause-all
 returns-clause-all c =
-    IfOk-weaker c.printed.result _ _ (λ bytes is. record { parts = c.in_ok-parts.parts; knows = c.in_ok-parts.ensures; printed = is }) c.printed.ensures.all
+    IfOk-weaker c.formatted_message.result _ _ (λ bytes is. record { parts = c.in_ok-parts.parts; knows = c.in_ok-parts.ensures; printed = is }) c.formatted_message.ensures.all

@@ -1,13 +1,13 @@
 use Rattle.std.proofs.Common.{◌≡◌, ◌+◌, ◌∷◌, ◌++◌, drop, get_or, reverse, refl, sym, ap, ◌∙◌, subst, take}
 use Rattle.wc_model.proofs.Common.{or-false, drop_more, list_any}
 use Rattle.wc_diag_warnings.proofs.EventSteps.{above_step, asked_in, asked_step, found_step, number_is, one_more_before}
-use Rattle.wc_diag_warnings.specs.{reads_valid, IsFollowed, Start, event_view, events_view, warnings_view, caution, outputs_in}
-use Rattle.wc_diag_warnings.specs.declared.events.Deed.TheVariants.{Begin}
+use Rattle.wc_diag_warnings.specs.{reads_valid, IsFollowed, Start, event_view, events_view, warnings_view, warning_at, outputs_in}
+use Rattle.wc_diag_warnings.specs.declared.events.Action.TheVariants.{Begin}
 use Rattle.wc_diag_warnings.specs.declared.events.Event.{Event}
 use Rattle.wc_diag_warnings.proofs.body.warn_body.Goals as goal
 
 abbrev no_event : Event
-no_event = record { line = 0; deed = Begin }
+no_event = record { line = 0; action = Begin }
 
 pub loop-event-init : goal.loop-event-init
 loop-event-init c =
@@ -39,7 +39,7 @@ loop-event-preserved c =
       followed = subst (λ es. IsFollowed es c.follow.new.ahead) (sym more_is) (c.in_ok-follow.ensures.followed before so_far.followed from);
       found = found_step numbers events before more (events_view (drop i items)) rest e c.number_of.result (warnings_view c.loop-event.warnings.items) (warnings_view c.warn.new.warnings.items) _
           more_is left_is
-          (c.in_ok-warn.ensures.added ∙ ap (λ name. warnings_view c.loop-event.warnings.items ++ caution c.number_of.result e.line name) c.address_of.ensures)
+          (c.in_ok-warn.ensures.added ∙ ap (λ name. warnings_view c.loop-event.warnings.items ++ warning_at c.number_of.result e.line name) c.address_of.ensures)
           (number_is numbers events before e c.begins.result c.loop-event.above c.paths_to-paths.result.started c.is_again.result c.reads_weight.result c.loop-event.asked c.number_of.result
           c.number_of.ensures c.begins.ensures so_far.above (from Start) (c.is_again.ensures before from) c.reads_weight.ensures so_far.asked)
           so_far.found;

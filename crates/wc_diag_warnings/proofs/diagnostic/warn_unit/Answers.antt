@@ -1,15 +1,15 @@
 use Rattle.wc_model.proofs.Common.{◌≡◌, List, ◌++◌, ap, ◌∙◌, append_assoc, on_ok_weaker}
 use Rattle.wc_model.specs.Definitions.{Variable, variables_of, lines_view, unit_view}
 use Rattle.wc_model.specs.declared.source.UnitKind.{UnitKind}
-use Rattle.wc_diag_warnings.specs.{Happening, events_of, events_view, warnings_view, used_in, Caution, body_cautions, declared_cautions}
+use Rattle.wc_diag_warnings.specs.{BodyEvent, events_of, events_view, warnings_view, used_in, WarningAt, body_warnings, declared_warnings}
 use Rattle.wc_diag_warnings.proofs.diagnostic.warn_unit.Goals as goal
 
 -- what is declared is looked at first, and then the body
-both : (kind : UnitKind) (variables : List Variable) (all first then : List Happening) (old between new : List Caution) → first ≡ all → then ≡ all →
-    between ≡ old ++ declared_cautions kind (used_in first) variables → new ≡ between ++ body_cautions kind then →
-    new ≡ old ++ (declared_cautions kind (used_in all) variables ++ body_cautions kind all)
+both : (kind : UnitKind) (variables : List Variable) (all first then : List BodyEvent) (old between new : List WarningAt) → first ≡ all → then ≡ all →
+    between ≡ old ++ declared_warnings kind (used_in first) variables → new ≡ between ++ body_warnings kind then →
+    new ≡ old ++ (declared_warnings kind (used_in all) variables ++ body_warnings kind all)
 both kind variables all first then old between new f t b n =
-    cc (append_assoc old (declared_cautions kind (used_in all) variables) (body_cautions kind all))
+    cc (append_assoc old (declared_warnings kind (used_in all) variables) (body_warnings kind all))
 
 pub returns : goal.returns
 returns c = record {

@@ -6,5 +6,5 @@ use Rattle.wc_diag_warnings.proofs.edges.follow.Goals as goal
 pub returns-in_default : goal.returns-in_default
 returns-in_default c = record {
   followed = λ before so_far from. followed_more before (event_view c.args.event.now) c.args.ahead.now (record { next = c.onward-ahead.result; labels = c.args.ahead.now.labels }) c.args.paths so_far from
-      c.onward-ahead.ensures (λ source key. not_led c.args.event.now.deed c.in_default.not-Jump (name_of_key key) (is_from c.args.paths source) (leads c.args.ahead.now.labels (name_of_key key) source));
+      c.onward-ahead.ensures (λ source key. not_led c.args.event.now.action c.in_default.not-Jump (name_of_key key) (is_from c.args.paths source) (leads c.args.ahead.now.labels (name_of_key key) source));
 }

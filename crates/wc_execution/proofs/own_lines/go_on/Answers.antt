@@ -50,8 +50,8 @@ returns-in-ArgumentPlace-clause-moments g c =
 pub returns-in-ApplyPlace-clause-leaves : goal.returns-in-ApplyPlace-clause-leaves
 returns-in-ApplyPlace-clause-leaves g c =
     apply_leaves c.args.base c.args.now (g.S.Store.slot_kinds c.args.store.now) c.args.current c.args.deferred.now.items (g.S.Store.numbers c.args.store.now) c.args.line.now
-    c.in-ApplyPlace.operator c.in-ApplyPlace.place c.on-in-ApplyPlace.result c.read-operand.result _ _ c.combined-in-ApplyPlace.result c.in-ApplyPlace.is c.read-operand.ensures
-    (to_z-of_z w32 c.args.current c.ranges.current) (narrow_same c.read-operand.result c.read-operand.type_inv) c.combined-in-ApplyPlace.ensures (c.on-in-ApplyPlace.ensures.current ∙ (narrow_same c.combined-in-ApplyPlace.result c.combined-in-ApplyPlace.type_inv)) c.on-in-ApplyPlace.ensures.course
+    c.in-ApplyPlace.operator c.in-ApplyPlace.place c.on-in-ApplyPlace.result c.read-operand.result _ _ c.apply_number-in-ApplyPlace.result c.in-ApplyPlace.is c.read-operand.ensures
+    (to_z-of_z w32 c.args.current c.ranges.current) (narrow_same c.read-operand.result c.read-operand.type_inv) c.apply_number-in-ApplyPlace.ensures (c.on-in-ApplyPlace.ensures.current ∙ (narrow_same c.apply_number-in-ApplyPlace.result c.apply_number-in-ApplyPlace.type_inv)) c.on-in-ApplyPlace.ensures.course
 
 pub write-requires-clause-there : goal.write-requires-clause-there
 write-requires-clause-there g c =
@@ -131,31 +131,31 @@ returns-in-ArgumentNumber-clause-kinds g c = c.write.ensures.kinds
 pub returns-in-ArgumentPlace-clause-kinds : goal.returns-in-ArgumentPlace-clause-kinds
 returns-in-ArgumentPlace-clause-kinds g c = c.pass.ensures.kinds
 
-pub combined-requires : goal.combined-requires
-combined-requires g c =
+pub apply_number-requires : goal.apply_number-requires
+apply_number-requires g c =
     apply_there c.args.base c.args.now (g.S.Store.slot_kinds c.args.store.now) c.args.current c.args.deferred.now.items (g.S.Store.numbers c.args.store.now) c.args.line.now
     c.in-ApplyNumber.operator c.in-ApplyNumber.number _ _ (to_z-of_z w32 c.args.current c.ranges.current) (to_z-of_z w32 c.in-ApplyNumber.number (search rules)) c.in-ApplyNumber.is c.requires.there
 
 pub returns-in-ApplyNumber-clause-leaves : goal.returns-in-ApplyNumber-clause-leaves
 returns-in-ApplyNumber-clause-leaves g c =
     apply_number_leaves c.args.base c.args.now (g.S.Store.slot_kinds c.args.store.now) c.args.current c.args.deferred.now.items (g.S.Store.numbers c.args.store.now) c.args.line.now
-    c.in-ApplyNumber.operator _ _ c.in-ApplyNumber.number c.combined.result c.on-in-ApplyNumber.result (to_z-of_z w32 c.args.current c.ranges.current) (to_z-of_z w32 c.in-ApplyNumber.number (search rules)) c.in-ApplyNumber.is c.combined.ensures
-    (c.on-in-ApplyNumber.ensures.current ∙ (narrow_same c.combined.result c.combined.type_inv)) c.on-in-ApplyNumber.ensures.course
+    c.in-ApplyNumber.operator _ _ c.in-ApplyNumber.number c.apply_number.result c.on-in-ApplyNumber.result (to_z-of_z w32 c.args.current c.ranges.current) (to_z-of_z w32 c.in-ApplyNumber.number (search rules)) c.in-ApplyNumber.is c.apply_number.ensures
+    (c.on-in-ApplyNumber.ensures.current ∙ (narrow_same c.apply_number.result c.apply_number.type_inv)) c.on-in-ApplyNumber.ensures.course
 
-pub combined-requires-in-ApplyPlace : goal.combined-requires-in-ApplyPlace
-combined-requires-in-ApplyPlace g c =
+pub apply_number-requires-in-ApplyPlace : goal.apply_number-requires-in-ApplyPlace
+apply_number-requires-in-ApplyPlace g c =
     apply_place_there c.args.base c.args.now (g.S.Store.slot_kinds c.args.store.now) c.args.current c.args.deferred.now.items (g.S.Store.numbers c.args.store.now) c.args.line.now
     c.in-ApplyPlace.operator c.in-ApplyPlace.place c.read-operand.result _ _ (to_z-of_z w32 c.args.current c.ranges.current) (narrow_same c.read-operand.result c.read-operand.type_inv) c.read-operand.ensures c.in-ApplyPlace.is c.requires.there
 
-pub flipped-requires : goal.flipped-requires
-flipped-requires g c =
+pub negated_number-requires : goal.negated_number-requires
+negated_number-requires g c =
     flip_there c.args.base c.args.now (g.S.Store.slot_kinds c.args.store.now) c.args.current c.args.deferred.now.items (g.S.Store.numbers c.args.store.now) c.args.line.now
     _ (to_z-of_z w32 c.args.current c.ranges.current) c.in-Not.is c.requires.there
 
 pub returns-in-Not-clause-leaves : goal.returns-in-Not-clause-leaves
 returns-in-Not-clause-leaves g c =
     flip_leaves c.args.base c.args.now (g.S.Store.slot_kinds c.args.store.now) c.args.current c.args.deferred.now.items (g.S.Store.numbers c.args.store.now) c.args.line.now
-    _ c.flipped.result c.on-in-Not.result (to_z-of_z w32 c.args.current c.ranges.current) c.in-Not.is c.flipped.ensures (c.on-in-Not.ensures.current ∙ (narrow_same c.flipped.result c.flipped.type_inv)) c.on-in-Not.ensures.course
+    _ c.negated_number.result c.on-in-Not.result (to_z-of_z w32 c.args.current c.ranges.current) c.in-Not.is c.negated_number.ensures (c.on-in-Not.ensures.current ∙ (narrow_same c.negated_number.result c.negated_number.type_inv)) c.on-in-Not.ensures.course
 
 pub read-inner-requires-clause-there : goal.read-inner-requires-clause-there
 read-inner-requires-clause-there g c =

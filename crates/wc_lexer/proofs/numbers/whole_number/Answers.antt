@@ -12,4 +12,4 @@ returns-then-begins_with-2 c =
 
 pub returns-else-begins_with-2 : goal.returns-else-begins_with-2
 returns-else-begins_with-2 c =
-    whole_unsigned c.args.text.now c.unsigned.result c.number_in_32_bits-else-begins_with-2.result (sym c.begins_with.ensures ∙ c.if-begins_with.false) (sym c.begins_with-else-begins_with.ensures ∙ c.if-begins_with-2.false) c.unsigned.ensures c.number_in_32_bits-else-begins_with-2.ensures
+    whole_unsigned c.args.text.now c.unsigned_number.result c.number_in_32_bits-else-begins_with-2.result (sym c.begins_with.ensures ∙ c.if-begins_with.false) (sym c.begins_with-else-begins_with.ensures ∙ c.if-begins_with-2.false) c.unsigned_number.ensures c.number_in_32_bits-else-begins_with-2.ensures

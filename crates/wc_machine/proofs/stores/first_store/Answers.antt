@@ -25,13 +25,13 @@ pub filled-requires-clause-moments : goal.filled-requires-clause-moments
 filled-requires-clause-moments g c = subst (AreBefore 0 (g.S.Store.slot_kinds c.in_ok-store.store)) (sym c.in_ok-store.ensures.zero) (record { each = λ place n moment there. zero_found (length c.args.kinds.now) place n there })
 
 pub returns-clause-numbers : goal.returns-clause-numbers
-returns-clause-numbers g c = c.filled.ensures.numbers
+returns-clause-numbers g c = c.with_initials.ensures.numbers
 
 pub returns-clause-kinds : goal.returns-clause-kinds
-returns-clause-kinds g c = c.filled.ensures.kinds ∙ c.in_ok-store.ensures.kinds
+returns-clause-kinds g c = c.with_initials.ensures.kinds ∙ c.in_ok-store.ensures.kinds
 
 pub returns-clause-moments : goal.returns-clause-moments
-returns-clause-moments g c = c.filled.ensures.moments
+returns-clause-moments g c = c.with_initials.ensures.moments
 
 pub returns-clause-memory : goal.returns-clause-memory
 returns-clause-memory g c = tt

@@ -1,6 +1,6 @@
 use Rattle.wc_model.proofs.Common.{◌≡◌, ◌∙◌, false, ap, arith, of_z, rules, sym, to_z, w64, ints}
 use Rattle.std.specs.Prelude.{int_div, pos, ◌*ℤ◌}
-use Rattle.wc_model.specs.Instrument.PlateTable.{Written, is_between}
+use Rattle.wc_model.specs.Instrument.PlateTable.{KeyValues, is_between}
 use Rattle.wc_plate.specs.KeyFaults.{written_seen}
 use Rattle.wc_plate.proofs.Texts.{validated_is_plate, refused_507}
 use Rattle.wc_plate.proofs.validation.validate_written.Goals as goal
@@ -10,7 +10,7 @@ invariant_of-result c = validated_is_plate (written_seen c.args.written.now) _ (
 
 pub returns-in_default-between : goal.returns-in_default-between
 returns-in_default-between c =
-    let w : Written = written_seen c.args.written.now in
+    let w : KeyValues = written_seen c.args.written.now in
     let max : to_z w64 (of_z w64 c.args.written.now.max) ≡ c.args.written.now.max = omega (arith, ints) in
     let e : to_z w64 (of_z w64 c.args.written.now.e) ≡ c.args.written.now.e = omega (arith, ints) in
     let decimals : to_z w64 (of_z w64 c.args.written.now.decimals) ≡ c.args.written.now.decimals = omega (arith, ints) in

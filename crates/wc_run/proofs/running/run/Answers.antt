@@ -35,7 +35,7 @@ returns-clause-writes g c =
     let read : LogOf = log_of (records_of bytes) in
     let log : LogOf = log_for logic read in
     classified_says (text_in_all plan plate logic log.refusal) (text_coming plan plate logic []) log (taken c.args.writer.now) (taken c.end_rows.new.writer)
-    c.in-Err.fault c.classified.result c.classified.ensures.classified
+    c.in-Err.fault c.classify.result c.classify.ensures.classified
     (c.in-Err.ensures.writes start plan plate logic log (taken c.args.writer.now) c.run_rows-answer.ensures.plan
     (c.run_rows-answer.ensures.runs read left start plate logic represents seen)))
 
@@ -47,7 +47,7 @@ returns-clause-ended g c =
     let read : LogOf = log_of (records_of bytes) in
     let log : LogOf = log_for logic read in
     classified_at_end (o.has_ended c.end_rows.new.observer (o.settings c.args.observer.now)) start plate logic log (g.W.ByteOut.bytes_taken c.end_rows.new.writer)
-    c.in-Err.fault c.classified.result c.classified.ensures.classified
+    c.in-Err.fault c.classify.result c.classify.ensures.classified
     (subst (λ settings. EndsWhole (o.has_ended c.end_rows.new.observer settings) start plate logic log (Err c.in-Err.fault) (g.W.ByteOut.bytes_taken c.end_rows.new.writer)) c.run_rows-answer.ensures.settings
     (c.in-Err.ensures.ended start (o.plan c.args.observer.now) plate logic log (said_by o.speaks g.W.ByteOut.bytes_taken c.args.writer.now)
     (c.run_rows-answer.ensures.runs read left start plate logic represents seen))))
@@ -56,7 +56,7 @@ pub returns-clause-reported : goal.returns-clause-reported
 returns-clause-reported g c = IfSome_then (g.R.ByteIn.bytes_left c.args.reader.now) c.new-rows.ensures.records
     (λ bytes reads.
     let fields = fields_reported c.report.new.reported in
-    reported_still (records_read bytes) fields c.in-Err.fault c.classified.result c.classified.ensures.classified
+    reported_still (records_read bytes) fields c.in-Err.fault c.classify.result c.classify.ensures.classified
     (c.in-Err.ensures.reported (records_read bytes) fields
     (rw c.report.ensures (c.run_rows-answer.ensures.reported (records_read bytes) reads))))
 
@@ -72,5 +72,5 @@ returns-in-Ok-clause-failures g c =
 pub returns-clause-failures : goal.returns-clause-failures
 returns-clause-failures g c =
     classified_writes (g.W.ByteOut.failure_count c.args.writer.now) (g.W.ByteOut.failure_count c.end_rows.new.writer)
-    c.in-Err.fault c.classified.result c.classified.ensures.classified
+    c.in-Err.fault c.classify.result c.classify.ensures.classified
     (c.in-Err.ensures.failures (g.W.ByteOut.failure_count c.args.writer.now) c.run_rows-answer.ensures.failures)

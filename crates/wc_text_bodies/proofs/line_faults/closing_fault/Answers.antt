@@ -22,5 +22,5 @@ returns-else-has_content c = λ units.
     let opened = ap (openings_view []) (sym c.deref.ensures.value) ∙ c.in-Some.ensures.1 in
     let has : has_content (option_map term_view c.in-Some.opening.now.operand) (lines_view c.args.body.now.done.items) ≡ false =
     ap (λ items. has_content (option_map term_view c.in-Some.opening.now.operand) (lines_view items)) (sym c.deref-in-Some.ensures.value) ∙ (sym c.has_content.ensures ∙ c.if-has_content.false) in
-    let inside : Some c.refused.result ≡ option_map fault_of (fault_at_closing (position_view units c.args.body.now) (opening_view c.in-Some.opening.now ∷ c.in-Some.ensures.0) c.args.line) = rw (has, c.refused.ensures) refl in
+    let inside : Some c.refusal.result ≡ option_map fault_of (fault_at_closing (position_view units c.args.body.now) (opening_view c.in-Some.opening.now ∷ c.in-Some.ensures.0) c.args.line) = rw (has, c.refusal.ensures) refl in
     inside ∙ sym (ap (λ os. option_map fault_of (fault_at_closing (position_view units c.args.body.now) os c.args.line)) opened)

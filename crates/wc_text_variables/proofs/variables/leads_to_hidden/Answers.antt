@@ -8,7 +8,7 @@ use Rattle.wc_names.specs.{IsUnit, numbered_type, AreTables}
 use Rattle.wc_names.specs.declared.declared_type.DeclaredType.{DeclaredType}
 use Rattle.wc_names.specs.declared.declared_type.DeclaredType.TheVariants as numbered
 use Rattle.wc_names.specs.declared.kept.Tables.{Tables}
-use Rattle.wc_names.specs.declared.located.Located.{Located}
+use Rattle.wc_names.specs.declared.located.VariablePlace.{VariablePlace}
 use Rattle.wc_text_variables.proofs.Walks.{Walks, WalksOn, from_program, walk_on}
 use Rattle.wc_text_variables.proofs.variables.leads_to_hidden.Goals as goal
 use Rattle.wc_text_variables.specs.Names.{is_hidden}
@@ -27,8 +27,8 @@ led {source} {read} {tables} {given} unit index names name {whole} {found} decla
     (walk_on text unit (name_of name.now) (map (λ name. name_of name.now) (drop (index + 1) names)) whole here)
 
 -- the type of a variable that is found
-of_type : {found known : Option Located} → found ≡ known → option_map (λ (v : Located). v.declared) found ≡ option_map (λ (v : Located). v.declared) known
-of_type is = ap (option_map (λ (v : Located). v.declared)) is
+of_type : {found known : Option VariablePlace} → found ≡ known → option_map (λ (v : VariablePlace). v.declared) found ≡ option_map (λ (v : VariablePlace). v.declared) known
+of_type is = ap (option_map (λ (v : VariablePlace). v.declared)) is
 
 pub loop-index-init : goal.loop-index-init
 loop-index-init c =

@@ -1,14 +1,14 @@
 use Rattle.wc_model.proofs.Common.{◌≡◌, sym, subst, [], ◌∷◌, ◌++◌, Option, ℕ, refl, is_some}
 use Rattle.wc_model.specs.Definitions.{store_checks, suits_target, truth_checks, writing_checks, asks, Scope, Term}
 use Rattle.wc_model.specs.declared.kind.Kind.{Kind}
-use Rattle.wc_model.specs.declared.operator.Storing.{Storing}
-use Rattle.wc_model.specs.declared.operator.Storing.TheVariants.{Result as StoreResult, Negation, Set, Reset}
+use Rattle.wc_model.specs.declared.operator.StoreKind.{StoreKind}
+use Rattle.wc_model.specs.declared.operator.StoreKind.TheVariants.{Result as StoreResult, Negation, Set, Reset}
 use Rattle.wc_verify.specs.Seeing.{Finds}
 use Rattle.wc_verify.proofs.Found.{asked_as, joined, pair_found}
 use Rattle.wc_verify.proofs.steps.validate_store.Goals as goal
 
 -- what is asked of STN is asked of S and R too
-of_truth : (scope : Scope) (storing : Storing) (term : Term) (kind : Option Kind) (found : Option ℕ) → (storing ≡ StoreResult → ⊥) → Finds (λ line. store_checks scope line Negation term kind) found → Finds (λ line. store_checks scope line storing term kind) found
+of_truth : (scope : Scope) (storing : StoreKind) (term : Term) (kind : Option Kind) (found : Option ℕ) → (storing ≡ StoreResult → ⊥) → Finds (λ line. store_checks scope line Negation term kind) found → Finds (λ line. store_checks scope line storing term kind) found
 of_truth scope StoreResult term kind found other h = absurd (other refl)
 of_truth scope Negation term kind found other h = h
 of_truth scope Set term kind found other h = h

@@ -5,7 +5,7 @@ use Rattle.wc_controller.proofs.Blaming.{load_refused, program_read}
 use Rattle.wc_controller.proofs.Givings.{not_loaded, upto_more}
 use Rattle.wc_controller.specs.{RefusesText, WritesUpTo, raised, AnswersFile, IsRefusedLoad}
 use Rattle.wc_job.specs.declared.input.Input.TheVariants as input
-use Rattle.wc_controller.specs.declared.ending.Stopped.{Stopped}
+use Rattle.wc_controller.specs.declared.ending.InputFault.{InputFault}
 use Rattle.wc_model.specs.Definitions.{IsLoaded, Text, text_view, AnswersProgram, JobAnswer, loads_program}
 use Rattle.wc_run.proofs.HandedOn.{propagated}
 use Rattle.wc_run.specs.Doing.{from_fault}
@@ -19,7 +19,7 @@ returns-in_err-text-clause-writes g c =
     let known = g.T.ByteIn.bytes_left c.args.program.now in
     let following = g.N.ByteIn.bytes_left c.args.next.now in
     let stopped = c.in_err-text.field-0.0 in
-    propagated (λ (r : Result (Unit {0}) Stopped). IfSome known (λ text. IfSome following (λ other. WritesUpTo (AnswersPreview c.args.paths text other) (raised r) taken taken)))
+    propagated (λ (r : Result (Unit {0}) InputFault). IfSome known (λ text. IfSome following (λ other. WritesUpTo (AnswersPreview c.args.paths text other) (raised r) taken taken)))
     stopped c.from_residual.result c.from_residual.ensures
     (file_not_read known _ stopped.fault
     (λ bytes longer. on_each following _
@@ -88,7 +88,7 @@ returns-in_err-other-clause-writes g c =
     let first = c.in-Ok.loaded.source in
     let stopped = c.in_err-other.field-0.0 in
     let why = stopped.fault in
-    propagated (λ (r : Result (Unit {0}) Stopped). IfSome known (λ text. IfSome following (λ other. WritesUpTo (AnswersPreview c.args.paths text other) (raised r) old old)))
+    propagated (λ (r : Result (Unit {0}) InputFault). IfSome known (λ text. IfSome following (λ other. WritesUpTo (AnswersPreview c.args.paths text other) (raised r) old old)))
     stopped c.from_residual-in_err-other.result c.from_residual-in_err-other.ensures
     (of_known known items (λ text. IfSome following (λ other. WritesUpTo (AnswersPreview c.args.paths text other) (Some why) old old)) c.in_ok-text.ensures.whole.1
     (file_not_read following _ why

@@ -11,7 +11,7 @@ use Rattle.wc_run.specs.OpenScales as open_scale
 pub returns-then-self-gt0-clause-seen : goal.returns-then-self-gt0-clause-seen
 returns-then-self-gt0-clause-seen g c plate logic past shown represents seen =
     let came : Came = came_by (row_of c.args.seen.now ∷ past) (program_of (logic_after plate logic (row_of c.args.seen.now ∷ past))) in
-    let opened : open_scale.Represents c.opened.result.now plate came = subst (λ s. open_scale.Represents s plate came) (sym c.opened.ensures) represents.opened in
+    let opened : open_scale.Represents c.open_scale.result.now plate came = subst (λ s. open_scale.Represents s plate came) (sym c.open_scale.ensures) represents.opened in
     keeps c.args.self.now.opened c.args.self.now _ c.prelude.result plate past (row_of c.args.seen.now) seen c.if-self-gt0.true refl refl refl refl
     (c.prelude.ensures.window plate came opened) (c.prelude.ensures.state plate came opened)
 

@@ -2,7 +2,7 @@ use Rattle.std.proofs.Common.{◌+◌, [], ◌∷◌, is_some, option_map, ap, s
 use Rattle.wc_model.proofs.Common.{option_and_then, slice_get, position_from}
 use Rattle.wc_model.specs.Definitions.{name_of, type_of, block_places, same_path, variable_places}
 use Rattle.wc_names.specs.{numbered_type, Represents}
-use Rattle.wc_names.specs.declared.located.Located.{Located}
+use Rattle.wc_names.specs.declared.located.VariablePlace.{VariablePlace}
 use Rattle.wc_names.specs.declared.variable.Variable.{Variable as Row}
 use Rattle.wc_names.proofs.Lookups.{first_found, from_row, named_rows, none_named, same_within, there_is, type_at_found, type_not_found}
 use Rattle.wc_names.proofs.ScopeTables.{at_unit, from_0, frame_path}
@@ -52,7 +52,7 @@ returns-in_err-row-clause-declared c = λ text scope are is.
     let h = subst (λ ts. Represents ts scope.before scope.unit) (sym c.deref.ensures.value) r.0 in
     let name = name_of c.args.name.now in
     let there = ap (slice_get c.deref.result.now) (from_0 r.1) ∙ h.there in
-    ap (option_map (λ (v : Located). v.declared)) c.from_residual.ensures ∙ sym (ap (option_and_then (numbered_type scope.before)) (type_not_found scope name (none_named c.deref.result.now scope.before scope.unit h name (sym (c.row.ensures h.table there (named_rows c.deref.result.now scope.before scope.unit h)) ∙ c.in_err-row.was))))
+    ap (option_map (λ (v : VariablePlace). v.declared)) c.from_residual.ensures ∙ sym (ap (option_and_then (numbered_type scope.before)) (type_not_found scope name (none_named c.deref.result.now scope.before scope.unit h name (sym (c.row.ensures h.table there (named_rows c.deref.result.now scope.before scope.unit h)) ∙ c.in_err-row.was))))
 
 pub returns-clause-begins : goal.returns-clause-begins
 returns-clause-begins c = λ text scope are is.
@@ -67,5 +67,5 @@ returns-in_err-row-clause-begins c = λ text scope are is.
     let r = at_unit text [] c.args.self.now.units.items c.args.unit scope are is in
     let h = subst (λ ts. Represents ts scope.before scope.unit) (sym c.deref.ensures.value) r.0 in
     let there = ap (slice_get c.deref.result.now) (from_0 r.1) ∙ h.there in
-    ap (option_map (λ (v : Located). v.first)) c.from_residual.ensures ∙ ap (option_map (λ (row : Row). row.first)) (sym c.in_err-row.was ∙ c.row.ensures h.table there (named_rows c.deref.result.now scope.before scope.unit h))
+    ap (option_map (λ (v : VariablePlace). v.first)) c.from_residual.ensures ∙ ap (option_map (λ (row : Row). row.first)) (sym c.in_err-row.was ∙ c.row.ensures h.table there (named_rows c.deref.result.now scope.before scope.unit h))
     ∙ first_found c.deref.result.now scope h (name_of c.args.name.now)

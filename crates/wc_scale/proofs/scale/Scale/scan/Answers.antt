@@ -44,18 +44,18 @@ returns-in-Some-scan-clause-taken c = λ done plate came running program represe
     record {
       done = given.done;
       reported = record {
-        steps = c.scanned.ensures.steps ∙ ap (λ (r : Record). r.steps) given.recorded;
-        bits = c.scanned.ensures.bits ∙ ap (λ (r : Record). r.outputs.bits) given.recorded;
-        words = c.scanned.ensures.words ∙ ap (λ (r : Record). r.outputs.words) given.recorded;
+        steps = c.scan_answer.ensures.steps ∙ ap (λ (r : Record). r.steps) given.recorded;
+        bits = c.scan_answer.ensures.bits ∙ ap (λ (r : Record). r.outputs.bits) given.recorded;
+        words = c.scan_answer.ensures.words ∙ ap (λ (r : Record). r.outputs.words) given.recorded;
       };
       represents = given.represents;
-      within = λ n bound. subst (λ k. k ≤ n) (sym c.scanned.ensures.steps) (given.within n bound);
+      within = λ n bound. subst (λ k. k ≤ n) (sym c.scan_answer.ensures.steps) (given.within n bound);
       last = c.in-Some-scan.ensures.last;
     }
 
 pub returns-in-Some-scan-clause-refused : goal.returns-in-Some-scan-clause-refused
 returns-in-Some-scan-clause-refused c =
-    refused_none c.args.self.now _ c.in-Some.opened c.args.ms c.in-Some-last.last c.scanned.result c.in-Some.is (sym c.last.ensures ∙ c.in-Some-last.is) c.if-ms-gt-LAST_MOMENT.false c.if-ms-last.false c.scanned.ensures.status
+    refused_none c.args.self.now _ c.in-Some.opened c.args.ms c.in-Some-last.last c.scan_answer.result c.in-Some.is (sym c.last.ensures ∙ c.in-Some-last.is) c.if-ms-gt-LAST_MOMENT.false c.if-ms-last.false c.scan_answer.ensures.status
 
 pub returns-in-None-clause-taken : goal.returns-in-None-clause-taken
 returns-in-None-clause-taken c = not_taken _ _ c.args.ms 5 c.no_scan-in-None.result (omega arith) c.no_scan-in-None.ensures

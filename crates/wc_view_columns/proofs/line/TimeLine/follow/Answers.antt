@@ -8,9 +8,9 @@ returns-clause-columns c rows after are from held is =
     let row = row_at c.args.ms after c.args.row.now in
     let line = c.reach.new.self in
     let wide = c.reach.ensures.columns rows (without_last c.args.self.now.start rows row from) are in
-    let joined : AreJoined (get_or c.fill.new.columns.items c.number-index.result c.index.result.now) c.args.row.now c.joined-column.result =
-    subst (λ a. AreJoined a c.args.row.now c.joined-column.result) (c.index.ensures)
-    (record { state = c.joined-column.ensures.state; events = c.joined-column.ensures.events }) in
-    let both = followed line.start line.power c.args.self.now.start rows row line.columns.items c.fill.new.columns.items c.args.held.now c.args.row.now c.joined-column.result
+    let joined : AreJoined (get_or c.fill.new.columns.items c.number-index.result c.index.result.now) c.args.row.now c.merge-column.result =
+    subst (λ a. AreJoined a c.args.row.now c.merge-column.result) (c.index.ensures)
+    (record { state = c.merge-column.ensures.state; events = c.merge-column.ensures.events }) in
+    let both = followed line.start line.power c.args.self.now.start rows row line.columns.items c.fill.new.columns.items c.args.held.now c.args.row.now c.merge-column.result
     c.index.result.now c.number-index.result from wide.count wide.each held c.number-index.ensures c.fill.ensures.columns is refl joined in
     record { count = both.0; each = both.1 }

@@ -7,8 +7,8 @@ pub returns : goal.returns
 returns c p history numbers st given =
     let h = held_at p history c.args.inputs c.args.outputs.now numbers in
     record {
-      gross = c.of.ensures ∙ ap (λ o. span_of (option_to_list o)) (c.widened.ensures ∙ c.gross.ensures p history st) ∙ ap span_of (sym (one_given (λ h. h.gross) h));
-      net = c.of-2.ensures ∙ ap (λ o. span_of (option_to_list o)) (c.widened-2.ensures ∙ c.net_of.ensures p history st) ∙ ap span_of (sym (one_given (λ h. h.net) h));
+      gross = c.of.ensures ∙ ap (λ o. span_of (option_to_list o)) (c.wide_weight.ensures ∙ c.gross.ensures p history st) ∙ ap span_of (sym (one_given (λ h. h.gross) h));
+      net = c.of-2.ensures ∙ ap (λ o. span_of (option_to_list o)) (c.wide_weight-2.ensures ∙ c.net_of.ensures p history st) ∙ ap span_of (sym (one_given (λ h. h.net) h));
       motion = ap not (c.stable.ensures p history st) ∙ sym (one_flag h.motion);
       over = c.over.ensures p history st ∙ sym (one_flag h.over);
       under = c.under.ensures p history st ∙ sym (one_flag h.under);
