@@ -2,8 +2,8 @@ use Rattle.std.proofs.lemmas.Result.{IfOk-weaker}
 use Rattle.wc_diag_messages.proofs.OneLine.{refusal_prints}
 use Rattle.wc_diag_messages.proofs.explaining.refusal_message.Goals as goal
 
-pub printed-requires : goal.printed-requires
-printed-requires c = refusal_prints c.args.refusal.now c.in_ok-parts.parts c.in_ok-parts.ensures
+pub formatted_message-requires : goal.formatted_message-requires
+formatted_message-requires c = refusal_prints c.args.refusal.now c.in_ok-parts.parts c.in_ok-parts.ensures
 
 pub returns-clause-all : goal.returns-clause-all
 returns-clause-all c =

@@ -9,20 +9,20 @@ zero_found zero place n e = absurd (let f : ⊥ = cc in f)
 zero_found (suc count) zero n e = let same : n ≡ 0 = cc in omega (arith, same)
 zero_found (suc count) (suc place) n e = zero_found count place n e
 
-pub filled-requires-clause-first : goal.filled-requires-clause-first
-filled-requires-clause-first g c = subst (λ ks. AreFirst ks c.args.initials.now) (sym c.in_ok-store.ensures.kinds) c.requires.first
+pub with_initials-requires-clause-first : goal.with_initials-requires-clause-first
+with_initials-requires-clause-first g c = subst (λ ks. AreFirst ks c.args.initials.now) (sym c.in_ok-store.ensures.kinds) c.requires.first
 
-pub filled-requires-clause-numbers : goal.filled-requires-clause-numbers
-filled-requires-clause-numbers g c = ap length c.in_ok-store.ensures.zero ∙ length-replicate (length c.args.kinds.now) (pos 0) ∙ sym c.requires.count
+pub with_initials-requires-clause-numbers : goal.with_initials-requires-clause-numbers
+with_initials-requires-clause-numbers g c = ap length c.in_ok-store.ensures.zero ∙ length-replicate (length c.args.kinds.now) (pos 0) ∙ sym c.requires.count
 
-pub filled-requires-clause-capacity : goal.filled-requires-clause-capacity
-filled-requires-clause-capacity g c =
+pub with_initials-requires-clause-capacity : goal.with_initials-requires-clause-capacity
+with_initials-requires-clause-capacity g c =
     let count = c.requires.count in
     let few = c.requires.capacity in
     omega (arith, count, few)
 
-pub filled-requires-clause-moments : goal.filled-requires-clause-moments
-filled-requires-clause-moments g c = subst (AreBefore 0 (g.S.Store.slot_kinds c.in_ok-store.store)) (sym c.in_ok-store.ensures.zero) (record { each = λ place n moment there. zero_found (length c.args.kinds.now) place n there })
+pub with_initials-requires-clause-moments : goal.with_initials-requires-clause-moments
+with_initials-requires-clause-moments g c = subst (AreBefore 0 (g.S.Store.slot_kinds c.in_ok-store.store)) (sym c.in_ok-store.ensures.zero) (record { each = λ place n moment there. zero_found (length c.args.kinds.now) place n there })
 
 pub returns-clause-numbers : goal.returns-clause-numbers
 returns-clause-numbers g c = c.with_initials.ensures.numbers
