@@ -11,6 +11,6 @@ returns c =
       number_is = refl;
       line_is = c.named_line.ensures;
       place_is = c.in_ok-place_words.ensures;
-      expected_are = one_shown _ c.as_bytes.result.now c.in_ok-shown.ensures;
-      advice_is = one_shown _ c.as_bytes-2.result.now c.in_ok-shown-2.ensures;
+      expected_are = one_shown _ c.as_bytes.result.now c.in_ok-shown_text.ensures;
+      advice_is = one_shown _ c.as_bytes-2.result.now c.in_ok-shown_text-2.ensures;
     }

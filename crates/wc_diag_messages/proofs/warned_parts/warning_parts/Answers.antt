@@ -12,12 +12,12 @@ returns c =
       within = f.within;
       represents = f.represents;
       said = c.words_of.result.0.now;
-      reported_is = c.in_ok-reported.ensures;
+      reported_is = c.in_ok-warning_sentence.ensures;
       severity_is = refl;
       number_is = c.from.ensures;
       line_is = refl;
       place_is = c.new.ensures.nothing;
       expected_are = c.new-2.ensures.nothing;
       advice = c.as_bytes.result.now;
-      advice_is = c.in_ok-shown.ensures;
+      advice_is = c.in_ok-shown_text.ensures;
     }
