@@ -1,8 +1,8 @@
 -- Which of the program's commands the arguments ask for. (No rule of the language.)
 use Rattle.std.specs.Prelude.{◌≡◌, ◌≤◌, false, Option, Some, None, IfSome, option_map}
 use Rattle.wc_arguments.specs.Asked.{Asked, asked, format_asked, line, run, show, texts_of, trace}
-use Rattle.wc.specs.declared.commands.Observation.{Observation}
-use Rattle.wc.specs.declared.commands.Observation.TheVariants.{Scans, Watched, Traced, Drawn}
+use Rattle.wc.specs.declared.observation.Observation.{Observation}
+use Rattle.wc.specs.declared.observation.Observation.TheVariants.{Scans, Watched, Traced, Drawn}
 use Rattle.wc.specs.declared.files.RunPaths.{RunPaths}
 use Rattle.wc.specs.declared.session.Session.{Session}
 use Rattle.clap.specs.Words.{Text}

@@ -7,6 +7,7 @@ use crate::files::{
     optional_read, optional_source, read_of,
 };
 use crate::noting::{with_notes, with_warnings};
+use crate::observation::Observation;
 use crate::output::{FlushBeforeRead, SharedWriter};
 use crate::reporting::{Sources, report};
 use crate::session::Session;
@@ -157,19 +158,6 @@ fn trace_format(format: Format) -> TraceFormat {
 /// The bytes of a list of names, if one is given.
 fn bytes_of(names: Option<&str>) -> Option<&[u8]> {
     Some(names?.as_bytes())
-}
-
-/// What is written of a run of a log.
-#[derive(Clone, Copy)]
-pub(crate) enum Observation<'a> {
-    /// The report: of every scan, or of a number of last ones.
-    Scans(Option<u16>),
-    /// The values of variables.
-    Watched(WatchChoice<'a>),
-    /// The scans that are chosen, item by item.
-    Traced(ScanChoice),
-    /// A picture, with the variables of a list of names if one is given.
-    Drawn(Option<&'a str>),
 }
 
 /// Runs the log in these files, and writes what is observed of it. The error is a name of a list that no program has.

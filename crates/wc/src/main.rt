@@ -9,16 +9,15 @@ mod commands;
 mod file_source;
 mod files;
 mod noting;
+mod observation;
 mod output;
 mod reporting;
 mod session;
 
 use clap::Error;
 use clap::error::ErrorKind;
-use commands::{
-    CheckedPaths, Observation, check_programs, cut_log, decode_lines, observe_log, run_job,
-};
-use files::RunPaths;
+use commands::{CheckedPaths, check_programs, cut_log, decode_lines, observe_log, run_job};
+use observation::observation_of;
 use output::shared_output;
 use reporting::{report_write_fault, without_memory};
 use session::Session;
@@ -29,7 +28,6 @@ use std::{env, io};
 use wc_arguments::{Invocation, read_words};
 use wc_controller::RefusedRow;
 use wc_diag_messages::{page_of, shown_text, warning_page};
-use wc_view_watch::WatchChoice;
 
 /// The exit status if the arguments are wrong.
 const WRONG_WORDS: u8 = 2;
@@ -203,6 +201,9 @@ fn show_page(session: Session<'_>, number: &str) -> u8
 fn execute(session: Session<'_>, row: &mut RefusedRow, wanted: Invocation<'_>) -> u8
     requires asked { Asks session (view wanted) }
 {
+    if let Some((paths, observed)) = observation_of(wanted) {
+        return observe_log(session, row, paths, observed);
+    }
     match wanted {
         Invocation::Job => run_job(session, row),
         Invocation::Check {
@@ -211,66 +212,10 @@ fn execute(session: Session<'_>, row: &mut RefusedRow, wanted: Invocation<'_>) -
             paths,
             deny,
         } => check_programs(session, row, CheckedPaths { program, next }, paths, deny),
-        Invocation::Run {
-            last: Some(number),
-            ..
-        } if number < 1 || number > 1000 => WRONG_WORDS,
-        Invocation::Run {
-            watch: None,
-            changes: true,
-            ..
-        } => WRONG_WORDS,
-        Invocation::Run {
-            plate,
-            files,
-            last,
-            watch,
-            changes,
-        } => {
-            let paths = RunPaths::with_program(plate, files);
-            match watch {
-                Some(names) => {
-                    let names = names.as_bytes();
-                    let choice = WatchChoice {
-                        names,
-                        last,
-                        changes,
-                    };
-                    observe_log(session, row, paths, Observation::Watched(choice))
-                }
-                None => observe_log(session, row, paths, Observation::Scans(last)),
-            }
-        }
-        Invocation::Trace {
-            plate,
-            files,
-            chosen,
-        } => {
-            let paths = RunPaths::with_program(plate, files);
-            observe_log(session, row, paths, Observation::Traced(chosen))
-        }
-        Invocation::Show {
-            plate,
-            program,
-            next,
-            log,
-            watch,
-        } => {
-            let paths = RunPaths {
-                plate,
-                program,
-                next,
-                log,
-            };
-            observe_log(session, row, paths, Observation::Drawn(watch))
-        }
         Invocation::Decode { table } => decode_lines(session, row, table),
         Invocation::Explain { number } => show_page(session, number),
-        Invocation::Line { plate, log } => {
-            let paths = RunPaths::alone(plate, log);
-            observe_log(session, row, paths, Observation::Scans(None))
-        }
         Invocation::Cut { plate, log, at } => cut_log(session, row, at, plate, log),
+        _ => WRONG_WORDS,
     }
 }
 

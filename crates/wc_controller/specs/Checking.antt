@@ -19,8 +19,7 @@ pub record AreLinesAt (paths : Bool) (text : Text) (place : ℕ) (lines : List �
   pub is_part : IsPathPartAt paths text place part
   pub lines_are : lines ≡ unit_line name bound ++ part
 
--- A text's report is written; at a write fault a prefix of it, and not all; when out of
--- memory nothing. There is no other fault.
+-- A text's report is written; at a write fault a prefix of it, and not all; when out of memory nothing. There is no other fault.
 abbrev pub WritesReport : {X : Type 0} → Bool → Text → Result X RunFault → Option (List ℕ) → Option (List ℕ) → Type 0
 WritesReport paths text (Ok done) old new = (report : List ℕ) × IsUnitReport paths text report × Appends old new report
 WritesReport paths text (Err (Refused number place)) old new = ⊥

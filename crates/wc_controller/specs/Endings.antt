@@ -30,8 +30,7 @@ fault_raised (Err fault) = Some fault
 abbrev pub WritesPrefix : (JobAnswer → Type 0) → Option (List ℕ) → Option (List ℕ) → Type 0
 WritesPrefix allowed old new = Keeps old new ⊎ ((answer : JobAnswer) × allowed answer × AppendsPrefix old new answer.output)
 
--- an answer that is allowed was written: all of it; all but its refusal; at a fault a prefix of
--- it, or nothing
+-- an answer that is allowed was written: all of it; all but its refusal; at a fault a prefix of it, or nothing
 abbrev pub WritesUpTo : (JobAnswer → Type 0) → Option RunFault → Option (List ℕ) → Option (List ℕ) → Type 0
 WritesUpTo allowed None old new = (answer : JobAnswer) × allowed answer × (answer.status ≡ 0) × Appends old new answer.output
 WritesUpTo allowed (Some (Refused number place)) old new =

@@ -12,8 +12,7 @@ use Rattle.wc_model.specs.Definitions.{Record, JobAnswer}
 use Rattle.wc_record.specs.Left.{HasCause}
 use Rattle.wc_run.specs.{text_in_all, silent_plan}
 
--- this holds of the answers that are allowed for these inputs, with a program or with none, if the bytes of all that are read
--- are known
+-- this holds of the answers that are allowed for these inputs, with a program or with none, if the bytes of all that are read are known
 abbrev pub OfAnswersTo : Observed → Reader → Option Reader → Option Reader → Reader → ((JobAnswer → Type 0) → Type 0) → Type 0
 OfAnswersTo o plate None next log said =
     IfSome plate.bytes (λ table. IfSome log.bytes (λ bytes. said (AnswersLine o table bytes)))

@@ -1,8 +1,8 @@
-ghost use Rattle.std.specs.Prelude.{◌≡◌, ◌≤◌, Option, Some, None, IfSome, IsErrOf};
+ghost use Rattle.std.specs.Prelude.{◌≡◌, ◌≤◌, Option, Some, None, IfSome};
 ghost use Rattle.wc_model.specs.Definitions.{log_of, log_for, Logic};
-ghost use Rattle.wc_record.specs.{HasCause, records_of};
+ghost use Rattle.wc_record.specs.{records_of};
 ghost use Rattle.wc_run.specs.Logics.{IsAt};
-ghost use Rattle.wc_run.specs.Runs.{HasNotFailed, LeavesLine, Reports, ReportsWrites};
+ghost use Rattle.wc_run.specs.Runs.{LeavesLine, Reports, ReportsFaults};
 
 use std::alloc::Global;
 use wc_cost::Loaded;
@@ -57,19 +57,12 @@ pub fn run<'a, S: Store, R: ByteIn, W: ByteOut>(
         (λ bytes. (logic : Option Logic) → IsAt machine.entry next.entry logic
         → LeavesLine plate.now (log_for logic (log_of (records_of bytes))) result
         (W.bytes_taken writer.old) (W.bytes_taken writer.new)) }
-    ensures read { IsErrOf result RunFault.Read
-        → HasCause (R.failure_count reader.old) (R.failure_count reader.new)
-        (R.spent_count reader.old) (R.spent_count reader.new) }
-    // A failed reader, or the limit on what is read, is not reported as out of memory.
-    ensures memory { IsErrOf result RunFault.Memory
-        → ¬ HasCause (R.failure_count reader.old) (R.failure_count reader.new)
-        (R.spent_count reader.old) (R.spent_count reader.new) }
-    // A write fault is reported if the writer failed, and only then.
-    ensures failures { ReportsWrites result (W.failure_count writer.old)
-        (W.failure_count writer.new) }
-    // After the last row, or a refused one, the reader has not failed.
-    ensures reader { HasNotFailed result (R.failure_count reader.old)
-        (R.failure_count reader.new) }
+    // A failed reader, or the limit on what is read, is not reported as out of memory, nor a writer
+    // that failed as anything else.
+    ensures faults { ReportsFaults result
+        (R.failure_count reader.old) (R.failure_count reader.new)
+        (R.spent_count reader.old) (R.spent_count reader.new)
+        (W.failure_count writer.old) (W.failure_count writer.new) }
 {
     let mut text = Report::new(alloc);
     let mut reported = RefusedRow::new(alloc);
@@ -113,19 +106,12 @@ pub fn run_last<'a, S: Store, R: ByteIn, W: ByteOut>(
         (λ bytes. (logic : Option Logic) → IsAt machine.entry next.entry logic
         → LeavesLine plate.now (log_for logic (log_of (records_of bytes))) result
         (W.bytes_taken writer.old) (W.bytes_taken writer.new)) }
-    ensures read { IsErrOf result RunFault.Read
-        → HasCause (R.failure_count reader.old) (R.failure_count reader.new)
-        (R.spent_count reader.old) (R.spent_count reader.new) }
-    // A failed reader, or the limit on what is read, is not reported as out of memory.
-    ensures memory { IsErrOf result RunFault.Memory
-        → ¬ HasCause (R.failure_count reader.old) (R.failure_count reader.new)
-        (R.spent_count reader.old) (R.spent_count reader.new) }
-    // A write fault is reported if the writer failed, and only then.
-    ensures failures { ReportsWrites result (W.failure_count writer.old)
-        (W.failure_count writer.new) }
-    // After the last row, or a refused one, the reader has not failed.
-    ensures reader { HasNotFailed result (R.failure_count reader.old)
-        (R.failure_count reader.new) }
+    // A failed reader, or the limit on what is read, is not reported as out of memory, nor a writer
+    // that failed as anything else.
+    ensures faults { ReportsFaults result
+        (R.failure_count reader.old) (R.failure_count reader.new)
+        (R.spent_count reader.old) (R.spent_count reader.new)
+        (W.failure_count writer.old) (W.failure_count writer.new) }
 {
     let mut scans = match LastScans::new(alloc, last) {
         Ok(scans) => scans,

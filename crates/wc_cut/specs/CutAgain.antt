@@ -51,8 +51,7 @@ data_fields Change = codes "P" ∷ [] ∷ []
 abbrev pub row_fields : LogRow → Record
 row_fields row = decimal row.ms ∷ data_fields row.brings
 
--- The records of a log that is cut are the heading and one for each row of the prelude and after it,
--- with its fields.
+-- The records of a log that is cut are the heading and one for each row of the prelude and after it, with its fields.
 abbrev pub IsReadBack : PlateData → ℕ → List LogRow → Type 0
 IsReadBack plate count rows =
     records_of (cut_log count plate rows) ≡ first_row ∷ map row_fields (rows_of_cut plate count rows)

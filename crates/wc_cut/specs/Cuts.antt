@@ -47,8 +47,7 @@ opening_text plate past = heading_text ++ lines_of (time_of past) (prelude_of pl
 abbrev pub cut_log : ℕ → PlateData → List LogRow → List ℕ
 cut_log count plate rows = opening_text plate (past_after [] (take count rows)) ++ rows_text (drop count rows)
 
--- What is written of a log. If a row is refused, it is what is written of the rows before it, and nothing if no row after the cut
--- has come.
+-- What is written of a log. If a row is refused, it is what is written of the rows before it, and nothing if no row after the cut has come.
 abbrev pub cut_written : ℕ → Written
 cut_written count plate logic None rows = cut_log count plate rows
 cut_written count plate logic (Some refusal) rows = if nat_lt count (length rows) then cut_log count plate rows else []

@@ -7,7 +7,7 @@ macro_rules! with_constants {
             "0.1.0",
             "rattle-kit-13 logic dac8208d650f15bf",
             "78dadf184ff25c88e3fdf333e5a8b7116918528ce6b27960d8f3f36f6be54337",
-            "4d9b1cb3c36696a36928e1b04161c7007e4c3b33d931a6917d4bd7440d87e4b2"
+            "a60d9eb54bfd4664f05d62548c9c5f1c2265b0aec2bebde05570855f84214355"
         )
     };
 }

@@ -1,10 +1,20 @@
 -- The end of a run: what the observer writes after the rest, and how a fault is classified.
-use Rattle.wc_model.proofs.Common.{inl, inr, ◌≡◌, sym, subst, ℕ, List, [], Option, Ok, Err, Result, append-nil, true, false, Appends-kept, Appends-trans, Appends}
+use Rattle.std.proofs.lemmas.Result.{IfErr-at_err}
+use Rattle.wc_model.proofs.Common.{refl, inl, inr, ◌≡◌, sym, subst, ℕ, List, [], Option, Ok, Err, Result, append-nil, true, false, Appends-kept, Appends-trans, Appends}
 use Rattle.wc_model.specs.Definitions.{LogOf, PlateData, LogRow, Past, Logic}
 use Rattle.wc_run.proofs.Prefixes.{prefix_after, prefix_of_more}
-use Rattle.wc_run.specs.{Ended, EndsWhole, HasSeenAll, IsCutShort, IsClassified, RunsRows, Seeing, Writes, WritesBy, is_cut_short, refused_in, Plan, Start, onto, refusal_of, text_coming, IsNoRefusal, ReportsBy, ReportsWrite}
+use Rattle.wc_run.specs.{Ended, EndsWhole, HasSeenAll, IsCutShort, IsClassified, RunsRows, Seeing, Writes, WritesBy, is_cut_short, refused_in, Plan, Start, onto, refusal_of, text_coming, HasNotFailed, IsNoRefusal, ReportsBy, ReportsFaults, ReportsWrite}
+use Rattle.wc_record.specs.{HasCause}
 use Rattle.wc_run.specs.declared.fault.RunFault.{RunFault}
 use Rattle.wc_run.specs.declared.fault.RunFault.TheVariants.{Refused, Read, Write, Memory}
+
+-- what a fault says is also said by what it is classified as, if a read fault says what out of memory does
+classified : (P : RunFault → Type 0) → (P Read → P Memory) → (P Memory → P Read) → (fault named : RunFault) → IsClassified fault named → P fault → P named
+classified P on back Read named (inl same) says = subst P (sym same) says
+classified P on back Read named (inr same) says = subst P (sym same) (on says)
+classified P on back Memory named (inl same) says = subst P (sym same) (back says)
+classified P on back Memory named (inr same) says = subst P (sym same) says
+classified P on back fault named same says = subst P (sym same) says
 
 module _ {O : Type 0} (has_seen : Seeing O) (plan : Plan) (plate : PlateData) (logic : Option Logic) (log : LogOf) (old mid new : Option (List ℕ)) where
   -- rows that were not cut short are all seen and written, and the answer has the log's refusal
@@ -68,29 +78,22 @@ module _ (ended : Ended) (start : Start) (plate : PlateData) (logic : Option Log
   failed_there (Refused number place) held = absurd held
   failed_there fault held = tt
 
-  -- a fault is classified as one that is no refusal, unless it is one
-  pub classified_at_end : (fault classified : RunFault) → IsClassified fault classified → EndsWhole ended start plate logic log (Err fault) taken
-      → EndsWhole ended start plate logic log (Err classified) taken
-  classified_at_end Read classified (inl same) says = subst (λ raised. EndsWhole ended start plate logic log (Err raised) taken) (sym same) says
-  classified_at_end Read classified (inr same) says = subst (λ raised. EndsWhole ended start plate logic log (Err raised) taken) (sym same) says
-  classified_at_end Memory classified (inl same) says = subst (λ raised. EndsWhole ended start plate logic log (Err raised) taken) (sym same) says
-  classified_at_end Memory classified (inr same) says = subst (λ raised. EndsWhole ended start plate logic log (Err raised) taken) (sym same) says
-  classified_at_end fault classified same says = subst (λ raised. EndsWhole ended start plate logic log (Err raised) taken) (sym same) says
+  -- what a fault says of the end is also said by what it is classified as
+  pub classified_at_end : (fault named : RunFault) → IsClassified fault named → EndsWhole ended start plate logic log (Err fault) taken
+      → EndsWhole ended start plate logic log (Err named) taken
+  classified_at_end = classified (λ fault. EndsWhole ended start plate logic log (Err fault) taken) (λ says. says) (λ says. says)
 
--- what a fault says is also said by what it is classified as
-pub classified_says : (whole coming : List LogRow → List ℕ) (log : LogOf) (old new : Option (List ℕ)) (fault classified : RunFault)
-    → IsClassified fault classified → ReportsBy whole coming log (Err fault) old new → ReportsBy whole coming log (Err classified) old new
-classified_says whole coming log old new Read classified (inl same) says = subst (λ raised. ReportsBy whole coming log (Err raised) old new) (sym same) says
-classified_says whole coming log old new Read classified (inr same) says = subst (λ raised. ReportsBy whole coming log (Err raised) old new) (sym same) says
-classified_says whole coming log old new Memory classified (inl same) says = subst (λ raised. ReportsBy whole coming log (Err raised) old new) (sym same) says
-classified_says whole coming log old new Memory classified (inr same) says = subst (λ raised. ReportsBy whole coming log (Err raised) old new) (sym same) says
-classified_says whole coming log old new fault classified same says = subst (λ raised. ReportsBy whole coming log (Err raised) old new) (sym same) says
+-- what a fault says of what was written is also said by what it is classified as
+pub classified_says : (whole coming : List LogRow → List ℕ) (log : LogOf) (old new : Option (List ℕ)) (fault named : RunFault)
+    → IsClassified fault named → ReportsBy whole coming log (Err fault) old new → ReportsBy whole coming log (Err named) old new
+classified_says whole coming log old new = classified (λ fault. ReportsBy whole coming log (Err fault) old new) (λ says. says) (λ says. says)
 
--- what a fault says of the writer is also said by what it is classified as
-pub classified_writes : (old new : ℕ) (fault classified : RunFault) → IsClassified fault classified → ReportsWrite fault old new
-    → ReportsWrite classified old new
-classified_writes old new Read classified (inl same) says = subst (λ raised. ReportsWrite raised old new) (sym same) says
-classified_writes old new Read classified (inr same) says = subst (λ raised. ReportsWrite raised old new) (sym same) says
-classified_writes old new Memory classified (inl same) says = subst (λ raised. ReportsWrite raised old new) (sym same) says
-classified_writes old new Memory classified (inr same) says = subst (λ raised. ReportsWrite raised old new) (sym same) says
-classified_writes old new fault classified same says = subst (λ raised. ReportsWrite raised old new) (sym same) says
+-- so are the causes of a fault, which a reader's failures and what it gave decide
+pub classified_faults : (f f' s s' w w' : ℕ) (fault named : RunFault) → IsClassified fault named → (named ≡ Read → HasCause f f' s s')
+    → (named ≡ Memory → HasCause f f' s s' → ⊥) → ReportsWrite fault w w' → HasNotFailed (Err fault) f f' → ReportsFaults (Err named) f f' s s' w w'
+classified_faults f f' s s' w w' fault named is read memory writes held = record {
+  read = λ e. read (IfErr-at_err (λ other. named ≡ other) e refl);
+  memory = λ e. memory (IfErr-at_err (λ other. named ≡ other) e refl);
+  writer = classified (λ other. ReportsWrite other w w') (λ says. says) (λ says. says) fault named is writes;
+  reader = classified (λ other. HasNotFailed (Err other) f f') (λ says. says) (λ says. says) fault named is held;
+}

@@ -36,8 +36,7 @@ GivesItems old ms brings scan = (plate : PlateData) (logic : Option Logic) (past
 abbrev pub RunsRow : {S : Type 0} → LogScale S → LogRow → Type 0
 RunsRow old row = (plate : PlateData) (logic : Option Logic) (past : Past) → Represents old plate logic past → IsTaken (logic_after plate logic past) (logic_after plate logic (row ∷ past)) row
 
--- a scale is kept from a row by lack of memory, or because a run with whatever logic it represents
--- refuses the row
+-- a scale is kept from a row by lack of memory, or because a run with whatever logic it represents refuses the row
 abbrev pub StopsAtRow : {S : Type 0} → LogScale S → LogRow → RunFault → Type 0
 StopsAtRow old row (Refused code place) = (plate : PlateData) (logic : Option Logic) (past : Past) → Represents old plate logic past → IsRefusedRow (logic_after plate logic past) row code place
 StopsAtRow old row Read = ⊥
@@ -124,8 +123,7 @@ refused_in (Err fault) = None
 abbrev pub WritesBy : Plan → PlateData → Option Logic → LogOf → Result ℕ RunFault → Option (List ℕ) → Option (List ℕ) → Type 0
 WritesBy plan plate logic log answer old new = ReportsBy (text_in_all plan plate logic log.refusal) (text_coming plan plate logic []) log answer old new
 
--- a refusal and a write fault stay as they are; what else kept the log from being run is
--- classified by its cause
+-- a refusal and a write fault stay as they are; what else kept the log from being run is classified by its cause
 abbrev pub IsClassified : RunFault → RunFault → Type 0
 IsClassified Read classified = (classified ≡ Read) ⊎ (classified ≡ Memory)
 IsClassified Memory classified = (classified ≡ Read) ⊎ (classified ≡ Memory)

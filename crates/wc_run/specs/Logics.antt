@@ -9,8 +9,7 @@ use Rattle.wc_model.specs.Definitions.{PlateData, Text, text_view, LogOf, refuse
 abbrev pub text_of_next : Option LoadedText → Option Text
 text_of_next next = option_map (λ loaded. text_view loaded.source) next
 
--- a machine represents its logic, and what is loaded the next text; no machine represents none,
--- whatever is loaded
+-- a machine represents its logic, and what is loaded the next text; no machine represents none, whatever is loaded
 abbrev pub IsAt : Option MachineState → Option LoadedText → Option Logic → Type 0
 IsAt None next None = ⊤
 IsAt None next (Some logic) = ⊥

@@ -1,13 +1,14 @@
 -- What an answer of a run says of the log and of what was written.
-use Rattle.std.specs.Prelude.{◌≡◌, ◌≤◌, ℕ, List, ◌++◌, length, Option, Some, None, IfSome, Result, Ok, Err}
+use Rattle.std.specs.Prelude.{◌≡◌, ◌≤◌, ℕ, List, ◌++◌, length, Option, Some, None, IfSome, IsErrOf, Result, Ok, Err}
 use Rattle.std.specs.Io.KnownBytes.{Appends}
 use Rattle.wc_model.specs.Definitions.{LogOf, Record, PlateData, LogRow, HasFailedSince, line_report, Logic}
 use Rattle.wc_laws_instrument.specs.Logs.{without_scan_lines}
+use Rattle.wc_record.specs.{HasCause}
 use Rattle.wc_record.specs.Reported.{record_at, records_read}
 use Rattle.wc_run.specs.Logics.{run_report, run_report_last}
 use Rattle.wc_run.specs.Observing.{Written}
 use Rattle.wc_run.specs.declared.fault.RunFault.{RunFault}
-use Rattle.wc_run.specs.declared.fault.RunFault.TheVariants.{Refused, Write}
+use Rattle.wc_run.specs.declared.fault.RunFault.TheVariants.{Refused, Read, Write, Memory}
 
 -- a prefix of the text was written
 abbrev pub AppendsPrefix : Option (List ℕ) → Option (List ℕ) → List ℕ → Type 0
@@ -45,8 +46,7 @@ report_coming (Some number) plate logic = line_report plate
 abbrev pub Reports : Option ℕ → PlateData → Option Logic → LogOf → Result ℕ RunFault → Option (List ℕ) → Option (List ℕ) → Type 0
 Reports last plate logic log answer old new = ReportsBy (report_printing last plate logic) (report_coming last plate logic) log answer old new
 
--- What was written is the line's answers to the rows, once the lines that begin with an S are taken
--- out of it.
+-- What was written is the line's answers to the rows, once the lines that begin with an S are taken out of it.
 abbrev pub AppendsLine : PlateData → List LogRow → Option (List ℕ) → Option (List ℕ) → Type 0
 AppendsLine plate rows old new = (text : List ℕ) × Appends old new text × (without_scan_lines text ≡ line_report plate rows)
 
@@ -97,6 +97,14 @@ ReportsWrite fault old new = new ≡ old
 abbrev pub ReportsWrites : {X : Type 0} → Result X RunFault → ℕ → ℕ → Type 0
 ReportsWrites (Ok x) old new = new ≡ old
 ReportsWrites (Err fault) old new = ReportsWrite fault old new
+
+-- A read fault is reported if the reader has failed since, or as much was read as may be, and out of memory only without such a
+-- cause; a write fault if the writer failed, and only then. After the last row, or a refused one, the reader has not failed.
+pub record ReportsFaults (result : Result ℕ RunFault) (failures_before failures spent_before spent writes_before writes : ℕ) : Type 0 where
+  pub read : IsErrOf result Read → HasCause failures_before failures spent_before spent
+  pub memory : IsErrOf result Memory → HasCause failures_before failures spent_before spent → ⊥
+  pub writer : ReportsWrites result writes_before writes
+  pub reader : HasNotFailed result failures_before failures
 
 -- a fault at a row is a refusal of that row, or of a device or memory
 abbrev pub IsFaultAt : ℕ → RunFault → Type 0

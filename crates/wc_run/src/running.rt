@@ -1,9 +1,9 @@
-ghost use Rattle.std.specs.Prelude.{◌≡◌, ◌≤◌, ℕ, false, List, [], Option, IfSome, IsErrOf};
+ghost use Rattle.std.specs.Prelude.{◌≡◌, ◌≤◌, ℕ, false, List, [], Option, IfSome};
 ghost use Rattle.wc_model.specs.Definitions.{LogOf, Record, log_of, PlateData, log_for, Logic};
 ghost use Rattle.wc_record.specs.{HasCause, records_of, fields_reported};
 ghost use Rattle.wc_run.specs.Doing.{EndsWhole, IsClassified, RunsRows, WritesBy, is_cut_short, refused_in, seen_writing};
 ghost use Rattle.wc_run.specs.Observing.{Plan, Start, said};
-ghost use Rattle.wc_run.specs.Runs.{HasNotFailed, ReportsRefused, ReportsRow, ReportsWrites};
+ghost use Rattle.wc_run.specs.Runs.{HasNotFailed, ReportsFaults, ReportsRefused, ReportsRow, ReportsWrites};
 ghost use Rattle.wc_run.specs.Representation.{IsNotAfter, Represents};
 
 use crate::fault::RunFault;
@@ -143,19 +143,12 @@ pub fn run<S: Store, W: ByteOut, O: Observer<S, W>, R: ByteIn>(
         (log_for logic (log_of (records_of bytes))) result (W.bytes_taken writer.new)) }
     ensures reported { ReportsRefused (R.bytes_left reader.old)
         (fields_reported reported.new) result }
-    ensures read { IsErrOf result RunFault.Read
-        → HasCause (R.failure_count reader.old) (R.failure_count reader.new)
-        (R.spent_count reader.old) (R.spent_count reader.new) }
-    // A fault of the reader, or the limit that was reached, is not reported as out of memory.
-    ensures memory { IsErrOf result RunFault.Memory
-        → ¬ HasCause (R.failure_count reader.old) (R.failure_count reader.new)
-        (R.spent_count reader.old) (R.spent_count reader.new) }
-    // A write fault is reported if the observer's writer failed, and only then.
-    ensures failures { ReportsWrites result (W.failure_count writer.old)
-        (W.failure_count writer.new) }
-    // After the last row, or a refused one, its reader has not failed.
-    ensures reader { HasNotFailed result (R.failure_count reader.old)
-        (R.failure_count reader.new) }
+    // A failed reader, or the limit on what is read, is not reported as out of memory, nor a writer
+    // that failed as anything else.
+    ensures faults { ReportsFaults result
+        (R.failure_count reader.old) (R.failure_count reader.new)
+        (R.spent_count reader.old) (R.spent_count reader.new)
+        (W.failure_count writer.old) (W.failure_count writer.new) }
 {
     let failures = reader.failures();
     let spent = reader.spent();

@@ -12,8 +12,7 @@ use Rattle.wc_scale.specs.Representation.{HasNoProgram, IsClosed, IsKept, IsNotA
 use Rattle.wc_scale.specs.declared.results.Refusal.{Refusal}
 use Rattle.wc_scale.specs.declared.scale.Scale.{Scale}
 
--- the bytes are loaded as a text that is no larger than they are, which starts from its declarations, and no time is before its first
--- scan
+-- the bytes are loaded as a text that is no larger than they are, which starts from its declarations, and no time is before its first scan
 pub record IsStarted (old new : Scale) (bytes : List ℕ) : Type 0 where
   pub text : Text
   pub loaded : IsLoaded bytes text

@@ -14,8 +14,7 @@ pub record IsPreview (paths : Bool) (old new : Source) (answer : JobAnswer) : Ty
   pub units : IsUnitReport paths (text_view new) report
   pub answer_is : answer ≡ record { output = report ++ change_report old new; status = 0 }
 
--- A text that is loaded has a tree that keeps the spelling of its names, of which the rest says what is answered.
--- (The profile's own.)
+-- A text that is loaded has a tree that keeps the spelling of its names, of which the rest says what is answered. (The profile's own.)
 abbrev pub AnswersTree : (Source → JobAnswer → Type 0) → Text → JobAnswer → Type 0
 AnswersTree rest text answer = (source : Source) × (text_view source ≡ text) × rest source answer
 

@@ -185,8 +185,8 @@ returns-in-Err-begin-clause-devices g c = record {
 pub returns-in-Ok-scale_of-clause-devices : goal.returns-in-Ok-scale_of-clause-devices
 returns-in-Ok-scale_of-clause-devices g c = record {
   names = search rules;
-  read = λ at. c.run.ensures.read (c.stopped_at_log.ensures.read at);
-  memory = λ e. of_no_cause (c.run.ensures.memory (c.stopped_at_log.ensures.memory e));
-  reader = c.stopped_at_log.ensures.reader _ _ c.run.ensures.reader;
-  failures = c.stopped_at_log.ensures.failures _ _ c.run.ensures.failures;
+  read = λ at. c.run.ensures.faults.read (c.stopped_at_log.ensures.read at);
+  memory = λ e. of_no_cause (c.run.ensures.faults.memory (c.stopped_at_log.ensures.memory e));
+  reader = c.stopped_at_log.ensures.reader _ _ c.run.ensures.faults.reader;
+  failures = c.stopped_at_log.ensures.failures _ _ c.run.ensures.faults.writer;
 }

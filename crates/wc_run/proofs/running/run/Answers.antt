@@ -1,7 +1,7 @@
 use Rattle.wc_model.proofs.Common.{[], Err, arith, subst, ltb-false, IfSome_then}
 use Rattle.wc_model.specs.Definitions.{LogOf, log_of, log_for}
 use Rattle.wc_record.specs.{records_of, fields_reported, records_read}
-use Rattle.wc_run.proofs.RunEnds.{classified_at_end, classified_says, classified_writes}
+use Rattle.wc_run.proofs.RunEnds.{classified_at_end, classified_faults, classified_says}
 use Rattle.wc_run.proofs.ReportedRows.{reported_still}
 use Rattle.wc_run.proofs.running.run.Goals as goal
 use Rattle.wc_run.specs.{EndsWhole, said_by, text_coming, text_in_all}
@@ -60,17 +60,21 @@ returns-clause-reported g c = IfSome_then (g.R.ByteIn.bytes_left c.args.reader.n
     (c.in-Err.ensures.reported (records_read bytes) fields
     (rw c.report.ensures (c.run_rows-answer.ensures.reported (records_read bytes) reads))))
 
-pub returns-in-Ok-clause-reader : goal.returns-in-Ok-clause-reader
-returns-in-Ok-clause-reader g c =
-    c.in-Ok.ensures.reader (g.R.ByteIn.failure_count c.args.reader.now) _
-    (λ steady. let at_most = ltb-false c.failures-failures.result c.failures.result steady in omega (arith, at_most))
+pub returns-in-Ok-clause-faults : goal.returns-in-Ok-clause-faults
+returns-in-Ok-clause-faults g c = record {
+  read = λ e. absurd (cc);
+  memory = λ e. absurd (cc);
+  writer = c.in-Ok.ensures.failures (g.W.ByteOut.failure_count c.args.writer.now) c.run_rows-answer.ensures.failures;
+  reader = c.in-Ok.ensures.reader (g.R.ByteIn.failure_count c.args.reader.now) _
+      (λ steady. let at_most = ltb-false c.failures-failures.result c.failures.result steady in omega (arith, at_most));
+}
 
-pub returns-in-Ok-clause-failures : goal.returns-in-Ok-clause-failures
-returns-in-Ok-clause-failures g c =
-    c.in-Ok.ensures.failures (g.W.ByteOut.failure_count c.args.writer.now) c.run_rows-answer.ensures.failures
-
-pub returns-clause-failures : goal.returns-clause-failures
-returns-clause-failures g c =
-    classified_writes (g.W.ByteOut.failure_count c.args.writer.now) (g.W.ByteOut.failure_count c.end_rows.new.writer)
+pub returns-clause-faults : goal.returns-clause-faults
+returns-clause-faults g c =
+    classified_faults (g.R.ByteIn.failure_count c.args.reader.now) _ (g.R.ByteIn.spent_count c.args.reader.now) _ (g.W.ByteOut.failure_count c.args.writer.now) _
     c.in-Err.fault c.classify.result c.classify.ensures.classified
+    (λ read. rw (c.failures-failures.ensures, c.spent-spent.ensures) at (c.classify.ensures.read read))
+    (λ memory. rw (c.failures-failures.ensures, c.spent-spent.ensures) at (c.classify.ensures.memory memory))
     (c.in-Err.ensures.failures (g.W.ByteOut.failure_count c.args.writer.now) c.run_rows-answer.ensures.failures)
+    (c.in-Err.ensures.reader (g.R.ByteIn.failure_count c.args.reader.now) _
+    (λ steady. let at_most = ltb-false c.failures-failures.result c.failures.result steady in omega (arith, at_most)))
