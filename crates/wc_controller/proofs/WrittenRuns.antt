@@ -1,6 +1,7 @@
 -- What is said of the bytes that were written of a run, from its log to its inputs.
-use Rattle.wc_model.proofs.Common.{◌≡◌, ℕ, ◌≤◌, Bool, List, length, Option, Some, None, Result, Ok, Err, sym, subst, ◌∙◌, Appends, Keeps}
+use Rattle.wc_model.proofs.Common.{◌≡◌, refl, ℕ, ◌≤◌, Bool, List, length, Option, Some, None, Result, Ok, Err, sym, subst, ◌∙◌, Appends, Keeps}
 use Rattle.std.specs.Prelude.{◌≢◌, IfErr, IfSome}
+use Rattle.std.specs.Result.{IsErr, IsErrAnd}
 use Rattle.wc_controller.proofs.Allowing.{of_known, on_known}
 use Rattle.wc_controller.specs.{EndsAfter, EndsAfterFault, EndsRefused, IsAt, begin_fault_input, ending_of, fault_ending, fault_raised, raised, InputStates, Reader, AreReadOf, IfKnown, IsNextLoadedOf, OfLogic, log_by, EndsSaying, EndsUnwritten, IsUnwritten, OfRun, OfStart, OnEnd, OnRefusal, says_of}
 use Rattle.wc_controller.specs.declared.ending.Ending.{Ending}
@@ -11,9 +12,20 @@ use Rattle.wc_controller.specs.declared.ending.InputFault.{InputFault}
 use Rattle.wc_cost.specs.LoadedTexts.{LoadedText}
 use Rattle.wc_model.specs.Definitions.{plate_of, PlateData, IsLoaded, Text, text_view, longest_job, LogOf, refused_text, Logic, first_logic}
 use Rattle.wc_plate.specs.TomlTable.{table_read}
+use Rattle.wc_run.proofs.HandedOn.{propagated}
 use Rattle.wc_run.specs.{Ended, EndsWhole, text_of_next, RefusesToBegin, Start}
 use Rattle.wc_run.specs.declared.fault.RunFault.{RunFault}
 use Rattle.wc_run.specs.declared.fault.RunFault.TheVariants.{Refused, Read, Write, Memory}
+
+-- of the end of a run that stopped before its log nothing is said
+pub stopped_before : (said : Type 0) (stopped : InputFault) (result : Result (Unit {0}) InputFault) → IsErr result × IsErrAnd result (λ e. e ≡ stopped)
+    → (stopped.input ≡ input.Log → ⊥) → OnEnd result said
+stopped_before said stopped result gives elsewhere = propagated (λ r. OnEnd r said) stopped result gives (λ at. absurd (elsewhere at))
+
+-- what was not written to is unwritten
+pub unwritten_still : {X : Type 0} (result : Result X InputFault) (taken : Option (List ℕ)) → IsUnwritten result taken taken
+unwritten_still (Ok done) taken = tt
+unwritten_still (Err stopped) taken = λ elsewhere. refl
 
 -- a log that was not cut short
 pub log_ended : (said : Ended) (start : Start) (plate : PlateData) (logic : Option Logic) (log_of : List ℕ → LogOf) (fault : RunFault) (known : Option (List ℕ)) (taken : Option (List ℕ))

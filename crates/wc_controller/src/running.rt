@@ -80,26 +80,14 @@ pub fn run_inputs<
         (writer_of (said_by O.speaks W.bytes_taken) W.failure_count writer.old)
         (writer_of (said_by O.speaks W.bytes_taken) W.failure_count writer.new) }
 {
-    let plate = match read_plate(alloc, &mut inputs.plate) {
-        Ok(plate) => plate,
-        Err(stopped) => return Err(stopped),
-    };
-    let read = match read_optional(alloc, Input::Program, &mut inputs.program) {
-        Ok(read) => read,
-        Err(stopped) => return Err(stopped),
-    };
+    let plate = read_plate(alloc, &mut inputs.plate)?;
+    let read = read_optional(alloc, Input::Program, &mut inputs.program)?;
     let text = match read {
         Some(text) => text,
         None => return run_alone(alloc, observer, &plate, &mut inputs.log, writer, reported),
     };
-    let loaded = match load_input(alloc, Input::Program, &text) {
-        Ok(loaded) => loaded,
-        Err(stopped) => return Err(stopped),
-    };
-    let other = match read_optional(alloc, Input::Next, &mut inputs.next) {
-        Ok(other) => other,
-        Err(stopped) => return Err(stopped),
-    };
+    let loaded = load_input(alloc, Input::Program, &text)?;
+    let other = read_optional(alloc, Input::Next, &mut inputs.next)?;
     let programs = RunPrograms {
         plate,
         text: &text,
