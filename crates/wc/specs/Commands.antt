@@ -10,8 +10,8 @@ use Rattle.clap.specs.Words.{Text}
 -- the arguments ask for this, and for messages in the session's format
 abbrev pub Asks : Session → Asked → Type 0
 Asks session this =
-    (asked (texts_of session.words.now) ≡ this)
-    × (format_asked (texts_of session.words.now) ≡ Some session.format)
+    (asked (texts_of session.arguments.now) ≡ this)
+    × (format_asked (texts_of session.arguments.now) ≡ Some session.format)
 
 -- what asks for this to be observed of the run of a log with these files, if anything does
 abbrev pub observed_with : Observation → Text → Option Text → Option Text → Text → Option Asked
@@ -35,8 +35,8 @@ observed_of paths observed = observed_with observed paths.plate.now
 -- the arguments ask for this to be observed
 abbrev pub Observes : Session → RunPaths → Observation → Type 0
 Observes session paths observed =
-    (observed_of paths observed ≡ Some (asked (texts_of session.words.now)))
-    × (format_asked (texts_of session.words.now) ≡ Some session.format)
+    (observed_of paths observed ≡ Some (asked (texts_of session.arguments.now)))
+    × (format_asked (texts_of session.arguments.now) ≡ Some session.format)
 
 -- a number of last scans is 1 to 1000
 abbrev pub IsCounted : Observation → Type 0

@@ -25,29 +25,29 @@ use std::fs::metadata;
 use std::io::Write;
 use std::process::ExitCode;
 use std::{env, io};
-use wc_arguments::{Invocation, read_words};
+use wc_arguments::{Invocation, read_arguments};
 use wc_controller::RefusedRow;
 use wc_diag_messages::{page_of, shown_text, warning_page};
 
 /// The exit status if the arguments are wrong.
-const WRONG_WORDS: u8 = 2;
+const USAGE_ERROR: u8 = 2;
 
 /// The exit status if a device failed.
 const DEVICE_FAULT: u8 = 3;
 
 /// The arguments of the command line, the first of which is the program's own name.
-fn words_given(rt: &HostRuntime) -> io::Result<Vec<String>> {
-    let words = env::args(rt)?.collect(rt.alloc())?;
-    Ok(words)
+fn arguments_given(rt: &HostRuntime) -> io::Result<Vec<String>> {
+    let arguments = env::args(rt)?.collect(rt.alloc())?;
+    Ok(arguments)
 }
 
 /// The exit status if the arguments could not be had.
-fn end_without_words(rt: &HostRuntime, error: &io::Error) -> u8 {
+fn end_without_arguments(rt: &HostRuntime, error: &io::Error) -> u8 {
     if error.kind() == io::ErrorKind::OutOfMemory {
         return without_memory(rt);
     }
     let _reported = rt.eprintln("error: the arguments are not valid UTF-8");
-    WRONG_WORDS
+    USAGE_ERROR
 }
 
 /// Writes text on standard error, without the control characters that it may have.
@@ -60,11 +60,11 @@ fn write_shown(rt: &HostRuntime, text: &str) -> io::Result<()> {
 fn report_call(
     rt: &HostRuntime,
     what: &str,
-    words: &[String],
+    arguments: &[String],
     word: &str,
     path: &str,
 ) -> io::Result<()> {
-    let called = words.first().map_or("wc", |called| called.as_str());
+    let called = arguments.first().map_or("wc", |called| called.as_str());
     rt.eprint(what)?;
     write_shown(rt, called)?;
     rt.eprint(word)?;
@@ -78,41 +78,41 @@ fn is_readable(rt: &HostRuntime, path: &str) -> bool {
 }
 
 /// Says what may be intended by an unknown first argument: which word takes a program, or how a job is read.
-fn suggest_command(rt: &HostRuntime, words: &[String]) -> io::Result<()> {
+fn suggest_command(rt: &HostRuntime, arguments: &[String]) -> io::Result<()> {
     let job = "help: a job is read from standard input: ";
-    match words.get(1) {
+    match arguments.get(1) {
         Some(path) if is_readable(rt, path) && path.as_str().ends_with(".il") => {
             let check = "help: a program is checked by: ";
-            report_call(rt, check, words, " check ", path)
+            report_call(rt, check, arguments, " check ", path)
         }
-        Some(path) if is_readable(rt, path) => report_call(rt, job, words, " < ", path),
+        Some(path) if is_readable(rt, path) => report_call(rt, job, arguments, " < ", path),
         _ => {
             rt.eprintln(
                 "help: the commands are check, run, trace, show, line, cut, decode, explain and help",
             )?;
-            report_call(rt, job, words, " < ", "job.txt")
+            report_call(rt, job, arguments, " < ", "job.txt")
         }
     }
 }
 
 /// Says which arguments print what a word takes.
-fn report_taken(rt: &HostRuntime, words: &[String]) -> io::Result<()> {
+fn report_taken(rt: &HostRuntime, arguments: &[String]) -> io::Result<()> {
     let taken = "help: the options are printed by: ";
-    match words.get(1) {
+    match arguments.get(1) {
         Some(word) if !word.as_str().starts_with("-") => {
-            report_call(rt, taken, words, " help ", word)
+            report_call(rt, taken, arguments, " help ", word)
         }
-        _ => report_call(rt, taken, words, " help", ""),
+        _ => report_call(rt, taken, arguments, " help", ""),
     }
 }
 
 /// Says what helps if arguments are wrong.
-fn report_help(rt: &HostRuntime, kind: ErrorKind, words: &[String]) -> io::Result<()> {
+fn report_help(rt: &HostRuntime, kind: ErrorKind, arguments: &[String]) -> io::Result<()> {
     match kind {
-        ErrorKind::InvalidSubcommand => suggest_command(rt, words),
-        ErrorKind::UnknownArgument => report_taken(rt, words),
+        ErrorKind::InvalidSubcommand => suggest_command(rt, arguments),
+        ErrorKind::UnknownArgument => report_taken(rt, arguments),
         // The one number of `run` is that of last scans.
-        ErrorKind::ValueValidation if words.iter().any(|word| word.as_str() == "run") => {
+        ErrorKind::ValueValidation if arguments.iter().any(|word| word.as_str() == "run") => {
             rt.eprintln("help: --last takes a number of scans from 1 to 1000")
         }
         _ => Ok(()),
@@ -139,7 +139,7 @@ fn end_unprinted(rt: &HostRuntime, error: io::Error) -> u8 {
 }
 
 /// Prints help, the version, or what is wrong with the arguments: the exit status.
-fn show(rt: &HostRuntime, error: &Error, words: &[String]) -> u8 {
+fn show(rt: &HostRuntime, error: &Error, arguments: &[String]) -> u8 {
     if error.kind() == ErrorKind::OutOfMemory {
         return without_memory(rt);
     }
@@ -150,7 +150,7 @@ fn show(rt: &HostRuntime, error: &Error, words: &[String]) -> u8 {
     };
     match printed {
         Ok(()) => {
-            let _reported = report_help(rt, error.kind(), words);
+            let _reported = report_help(rt, error.kind(), arguments);
             error.exit_code() as u8
         }
         Err(error) => end_unprinted(rt, error),
@@ -191,7 +191,7 @@ fn show_page(session: Session<'_>, number: &str) -> u8
         Ok(true) => 0,
         Ok(false) => {
             let _reported = report_no_page(session.rt, number);
-            WRONG_WORDS
+            USAGE_ERROR
         }
         Err(error) => end_unprinted(session.rt, error),
     }
@@ -215,33 +215,33 @@ fn execute(session: Session<'_>, row: &mut RefusedRow, wanted: Invocation<'_>) -
         Invocation::Decode { table } => decode_lines(session, row, table),
         Invocation::Explain { number } => show_page(session, number),
         Invocation::Cut { plate, log, at } => cut_log(session, row, at, plate, log),
-        _ => WRONG_WORDS,
+        _ => USAGE_ERROR,
     }
 }
 
 /// Does what the arguments ask for, or says what is wrong with them. The exit status is 0 if all succeeded, 1 if something was
 /// refused, 2 if the arguments are wrong, 3 if a device failed, 4 if out of memory.
 fn main(rt: HostRuntime) -> ExitCode {
-    let words = match words_given(&rt) {
-        Ok(words) => words,
-        Err(error) => return ExitCode::from(end_without_words(&rt, &error)),
+    let arguments = match arguments_given(&rt) {
+        Ok(arguments) => arguments,
+        Err(error) => return ExitCode::from(end_without_arguments(&rt, &error)),
     };
     let gathered = match shared_output(&rt) {
         Ok(gathered) => gathered,
         Err(_) => return ExitCode::from(without_memory(&rt)),
     };
-    let status = match read_words(rt.alloc(), words.as_slice()) {
+    let status = match read_arguments(rt.alloc(), arguments.as_slice()) {
         Ok(request) => execute(
             Session {
                 rt: &rt,
                 format: request.format,
                 gathered: &gathered,
-                words: words.as_slice(),
+                arguments: arguments.as_slice(),
             },
             &mut RefusedRow::new(rt.alloc()),
             request.wanted,
         ),
-        Err(error) => show(&rt, &error, words.as_slice()),
+        Err(error) => show(&rt, &error, arguments.as_slice()),
     };
     ExitCode::from(status)
 }

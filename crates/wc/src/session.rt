@@ -9,5 +9,5 @@ pub(crate) struct Session<'a> {
     pub(crate) rt: &'a HostRuntime,
     pub(crate) format: Format,
     pub(crate) gathered: &'a RefCell<StandardOutput>,
-    pub(crate) words: &'a [String],
+    pub(crate) arguments: &'a [String],
 }

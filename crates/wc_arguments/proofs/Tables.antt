@@ -5,9 +5,9 @@ use Rattle.clap.specs.Words.{App, app_of, rule_of, with_rule, with_subcommand}
 use Rattle.clap.specs.declared.builder.arg.Arg.{Arg}
 use Rattle.clap.specs.declared.builder.command.Command.{Command}
 use Rattle.clap.specs.declared.builder.command.Command.TheViews.{out-Command}
-use Rattle.wc_arguments.specs.{Takes, row_rule, with_options, with_words, word_of}
+use Rattle.wc_arguments.specs.{Takes, row_rule, with_options, with_commands, command_of}
 use Rattle.wc_arguments.specs.declared.table.OptionRow.{OptionRow}
-use Rattle.wc_arguments.specs.declared.table.WordRow.{WordRow}
+use Rattle.wc_arguments.specs.declared.table.CommandRow.{CommandRow}
 
 from_index : {X : Type 0} (items : List X) (i : ℕ) (x : X) → i < length items → drop i items ≡ get_or items i x ∷ drop (i + 1) items
 from_index items i x below = let next : i + 1 ≡ suc i = add-one i in drop-cons items i x below ∙ (λ j. get_or items i x ∷ drop (sym next j) items)
@@ -29,10 +29,10 @@ subcommand_added old sub new word adds takes free = (
 )
 
 -- the word of the row at that index is added
-pub word_added : (old new : Command) (rows : List WordRow) (i : ℕ) (none : WordRow) → i < length rows → Takes (with_subcommand (app_of old) (word_of (get_or rows i none)).top) new
-    → (with_words (app_of new) (drop (i + 1) rows) ≡ with_words (app_of old) (drop i rows)) × ((out-Command new).has_globals ≡ false)
+pub word_added : (old new : Command) (rows : List CommandRow) (i : ℕ) (none : CommandRow) → i < length rows → Takes (with_subcommand (app_of old) (command_of (get_or rows i none)).top) new
+    → (with_commands (app_of new) (drop (i + 1) rows) ≡ with_commands (app_of old) (drop i rows)) × ((out-Command new).has_globals ≡ false)
 word_added old new rows i none below takes = (
-  ap (λ (a : App). with_words a (drop (i + 1) rows)) takes.0 ∙ sym (ap (with_words (app_of old)) (from_index rows i none below)),
+  ap (λ (a : App). with_commands a (drop (i + 1) rows)) takes.0 ∙ sym (ap (with_commands (app_of old)) (from_index rows i none below)),
   takes.1,
 )
 

@@ -18,8 +18,8 @@ use Rattle.wc_diag_texts.specs.declared.format.Format.TheVariants.{Long, Short, 
 use Rattle.clap.specs.ValueTests.{accepts}
 use Rattle.clap.specs.declared.builder.value_parser.ValueParser.TheVariants.{Unsigned}
 use Rattle.wc_arguments.specs.CommandLine.{command_line}
-use Rattle.wc_arguments.specs.declared.words.Invocation.{Invocation}
-use Rattle.wc_arguments.specs.declared.words.Invocation.TheVariants as wanted
+use Rattle.wc_arguments.specs.declared.invocation.Invocation.{Invocation}
+use Rattle.wc_arguments.specs.declared.invocation.Invocation.TheVariants as wanted
 
 -- the arguments as texts
 abbrev pub texts_of : List (String Global) → List Text

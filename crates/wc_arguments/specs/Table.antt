@@ -6,7 +6,7 @@ use Rattle.wc_arguments.specs.CommandLine.{value_option, wide_number_option}
 use Rattle.wc_arguments.specs.declared.table.OptionKind.{OptionKind}
 use Rattle.wc_arguments.specs.declared.table.OptionKind.TheVariants as kind
 use Rattle.wc_arguments.specs.declared.table.OptionRow.{OptionRow}
-use Rattle.wc_arguments.specs.declared.table.WordRow.{WordRow}
+use Rattle.wc_arguments.specs.declared.table.CommandRow.{CommandRow}
 
 -- an option of that kind and name
 abbrev pub rule_by : OptionKind → Text → Rule
@@ -27,10 +27,10 @@ with_options word [] = word
 with_options word (row ∷ rest) = with_options (with_rule word (row_rule row)) rest
 
 -- the word of a row
-abbrev pub word_of : WordRow → App
-word_of row = with_options (new_app row.name.now) row.options.now
+abbrev pub command_of : CommandRow → App
+command_of row = with_options (new_app row.name.now) row.options.now
 
 -- a command line with the words of these rows more
-abbrev pub with_words : App → List WordRow → App
-with_words line [] = line
-with_words line (row ∷ rest) = with_words (with_subcommand line (word_of row).top) rest
+abbrev pub with_commands : App → List CommandRow → App
+with_commands line [] = line
+with_commands line (row ∷ rest) = with_commands (with_subcommand line (command_of row).top) rest

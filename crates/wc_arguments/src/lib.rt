@@ -2,11 +2,11 @@
 #![tactic(auto)]
 
 mod formats;
+mod invocation;
 mod scan_choice;
 mod table;
 mod title;
-mod words;
 
 pub use formats::plain_formats;
+pub use invocation::{AskedCommand, Invocation, ProgramFiles, read_arguments};
 pub use scan_choice::ScanChoice;
-pub use words::{AskedCommand, Invocation, ProgramFiles, read_words};

@@ -1,7 +1,7 @@
 ghost use Rattle.std.specs.Prelude.{◌≡◌, IfOk, false};
 ghost use Rattle.clap.specs.Words.{App, rule_of};
 ghost use Rattle.wc_arguments.specs.CommandLine.{Takes, value_argument};
-ghost use Rattle.wc_arguments.specs.Table.{row_rule, with_options, with_words, word_of};
+ghost use Rattle.wc_arguments.specs.Table.{row_rule, with_options, with_commands, command_of};
 
 use clap::{Arg, ArgAction, Command, value_parser};
 use std::alloc::{AllocError, Global};
@@ -33,7 +33,7 @@ pub(crate) struct OptionRow<'a> {
 
 /// A word with its options in their order, and what is said of it.
 #[derive(Clone, Copy)]
-pub(crate) struct WordRow<'a> {
+pub(crate) struct CommandRow<'a> {
     name: &'a str,
     about: &'a str,
     options: &'a [OptionRow<'a>],
@@ -86,23 +86,23 @@ pub(crate) fn with_options<'a>(
 }
 
 /// The word of a row.
-fn word_of<'a>(alloc: Global, row: &WordRow<'a>) -> Result<Command<'a>, AllocError>
-    ensures { IfOk result (Takes (word_of row.now)) }
+fn command_of<'a>(alloc: Global, row: &CommandRow<'a>) -> Result<Command<'a>, AllocError>
+    ensures { IfOk result (Takes (command_of row.now)) }
 {
     let word = Command::new(alloc, row.name).about(row.about);
     with_options(alloc, word, row.options)
 }
 
 /// A command line with these words more.
-pub(crate) fn with_words<'a>(
+pub(crate) fn with_commands<'a>(
     alloc: Global,
     mut line: Command<'a>,
-    rows: &[WordRow<'a>],
+    rows: &[CommandRow<'a>],
 ) -> Result<Command<'a>, AllocError>
-    ensures { (app : App) → Takes app line.entry → IfOk result (Takes (with_words app rows.now)) }
+    ensures { (app : App) → Takes app line.entry → IfOk result (Takes (with_commands app rows.now)) }
 {
     for row in rows {
-        let word = word_of(alloc, row)?;
+        let word = command_of(alloc, row)?;
         line = line.subcommand(word)?;
     }
     Ok(line)
@@ -140,8 +140,8 @@ pub(crate) const MESSAGE: OptionRow<'static> = OptionRow {
     help: "The format of messages: long (the default), short or json",
 };
 
-pub(crate) const WORDS: [WordRow<'static>; 8] = [
-    WordRow {
+pub(crate) const COMMANDS: [CommandRow<'static>; 8] = [
+    CommandRow {
         name: "check",
         about: "Check a program, and print the greatest number of steps of each unit",
         options: &[
@@ -168,7 +168,7 @@ pub(crate) const WORDS: [WordRow<'static>; 8] = [
             MESSAGE,
         ],
     },
-    WordRow {
+    CommandRow {
         name: "run",
         about: "Run a log with a program: print each scan, and each answer of the line",
         options: &[
@@ -194,7 +194,7 @@ pub(crate) const WORDS: [WordRow<'static>; 8] = [
             MESSAGE,
         ],
     },
-    WordRow {
+    CommandRow {
         name: "trace",
         about: "Run a log with a program, and show its scans line by line",
         options: &[
@@ -225,7 +225,7 @@ pub(crate) const WORDS: [WordRow<'static>; 8] = [
             MESSAGE,
         ],
     },
-    WordRow {
+    CommandRow {
         name: "show",
         about: "Run a log, and write a picture of it (SVG)",
         options: &[
@@ -245,12 +245,12 @@ pub(crate) const WORDS: [WordRow<'static>; 8] = [
             MESSAGE,
         ],
     },
-    WordRow {
+    CommandRow {
         name: "line",
         about: "Run a log with no program: print each answer of the line",
         options: &[PLATE, LOG, MESSAGE],
     },
-    WordRow {
+    CommandRow {
         name: "cut",
         about: "Write the rest of a log, with a prelude that restores the scale (a program starts over)",
         options: &[
@@ -264,7 +264,7 @@ pub(crate) const WORDS: [WordRow<'static>; 8] = [
             MESSAGE,
         ],
     },
-    WordRow {
+    CommandRow {
         name: "decode",
         about: "Read the report of a run from standard input, and write it for people",
         options: &[OptionRow {
@@ -273,7 +273,7 @@ pub(crate) const WORDS: [WordRow<'static>; 8] = [
             help: "Write a table for a spreadsheet (CSV)",
         }],
     },
-    WordRow {
+    CommandRow {
         name: "explain",
         about: "Explain a refusal or a warning: what it means, an example, and what to write",
         options: &[OptionRow {

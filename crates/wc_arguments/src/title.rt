@@ -66,8 +66,8 @@ const INSTALLED: Title = Title {
 };
 
 /// The title for the name by which the program was called, the first of its arguments.
-pub(crate) fn title_of(words: &[String]) -> Title {
-    match words.first() {
+pub(crate) fn title_of(arguments: &[String]) -> Title {
+    match arguments.first() {
         Some(called) if called.as_str() == INSTALLED.name => INSTALLED,
         Some(called) if called.as_str().ends_with("/narbeddo") => INSTALLED,
         _ => BUILT,

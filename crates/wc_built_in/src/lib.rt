@@ -16,7 +16,7 @@ pub use address::variable_at;
 pub use fields::{NumberedField, StandardField, field_named, standard_fields};
 pub use keyword::Keyword;
 pub use keywords::{END_FUNCTION_BLOCK, END_PROGRAM, END_VAR, FALSE, TRUE, keyword_named};
-pub use kinds::{is_bool, is_kind, kind_after_operator, same_result};
+pub use kinds::{is_bool, kind_after_operator};
 pub use meanings::{elementary_type, is_reserved, is_type_word, standard_block};
 pub use operands::{is_bit_literal, is_divisor};
 pub use operators::{divides, takes, takes_truth};

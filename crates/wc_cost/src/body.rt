@@ -23,7 +23,7 @@ fn lines_ahead<'a>(labels: &LabelCounts<'a>, label: &[u8], count: usize) -> u32
 }
 
 /// How far ahead an instruction's label is; 0 if it names none.
-fn instr_ahead<'a>(labels: &LabelCounts<'a>, instr: &Instr<'a>, count: usize) -> u32
+fn label_skip<'a>(labels: &LabelCounts<'a>, instr: &Instr<'a>, count: usize) -> u32
     ensures { (rest : Lines) (scope : Scope) (label : Option LabelWord)
         → HoldsLabels labels.now rest count
         → IsLineLowerable scope (IsNear rest) (instr_line instr.now label)
@@ -62,7 +62,7 @@ fn put_line<'a>(
         → IsKeptFlat scope (line_view line.now rest) labels.new flat.new) }
 {
     if let Some(instr) = &line.instr {
-        let skip = instr_ahead(labels, instr, flat.len());
+        let skip = label_skip(labels, instr, flat.len());
         put_instr(tables, unit, instr, skip, flat)?;
     }
     match line.label {

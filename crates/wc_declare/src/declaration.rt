@@ -83,7 +83,7 @@ fn validate_type<'a>(units: &Units<'a>, declaration: &Decl<'a>) -> Result<Declar
     ensures declared { IfOk result
         (λ declared. (text : Text) (before : List ProgramUnit) → AreUnitsOf text before units.now
         → type_at before (name_view declaration.now.type_name) ≡ Some declared) }
-    ensures represents { IfOk result (λ declared. is_allowed_in declaration.now.section declared
+    ensures allowed { IfOk result (λ declared. is_allowed_in declaration.now.section declared
         ≡ true) }
     ensures plain { IfOk result
         (λ declared. is_elementary declared ≡ is_plain declaration.now.type_name) }

@@ -9,4 +9,6 @@ mod types;
 mod unit;
 
 pub use declaring::tables;
-pub use wc_names::{DeclaredType, Entity, Field, Formal, Frame, Key, Names, Tables, VariablePlace};
+pub use wc_names::{
+    DeclaredType, Entity, Field, FormalSlot, Frame, Key, Names, Tables, VariablePlace,
+};

@@ -93,7 +93,7 @@ fn is_inside(line: &[Token<'_>]) -> bool {
 
 /// The lines that are cut so far, and the one that begins at a token.
 #[derive(Drop)]
-struct Cutter<'a, 't> {
+struct LineCutter<'a, 't> {
     tokens: &'t [Token<'a>],
     lines: Vec<LogicalLine<'a, 't>>,
     region: Region,
@@ -101,7 +101,7 @@ struct Cutter<'a, 't> {
     open: usize,
 }
 
-impl<'a, 't> Cutter<'a, 't> {
+impl<'a, 't> LineCutter<'a, 't> {
     /// Ends the line before a token. One without tokens is none.
     fn end(&mut self, to: usize) -> Result<(), AllocError> {
         let all = slice(self.tokens, self.from, to);
@@ -191,7 +191,7 @@ pub(crate) fn logical_lines<'a, 't>(
     alloc: Global,
     tokens: &'t [Token<'a>],
 ) -> Result<Vec<LogicalLine<'a, 't>>, AllocError> {
-    let mut cutter = Cutter {
+    let mut cutter = LineCutter {
         tokens,
         lines: Vec::new(alloc),
         region: Region::Outside,

@@ -5,7 +5,7 @@ use Rattle.wc_diag_places.specs.Arguments.{IsArgument, IsArgumentAt, IsFirstBrok
 use Rattle.wc_diag_places.specs.OperandTokens.{begins_item, is_shape, list_end, tokens_at}
 use Rattle.wc_diag_places.specs.Lists.{AreListed, IsListedAs, item_after, item_at, operand_in, text_at}
 use Rattle.wc_diag_places.specs.declared.arguments.BrokenItem.{BrokenItem}
-use Rattle.wc_diag_places.specs.declared.arguments.Item.{Item}
+use Rattle.wc_diag_places.specs.declared.arguments.ListItem.{ListItem}
 use Rattle.wc_lexer.specs.declared.shape.Shape.TheVariants.{Closing}
 use Rattle.wc_lexer.specs.declared.shape.Token.{Token}
 use Rattle.wc_model.specs.Definitions.{actual_checks, argument_checks, formal_named, is_readable, is_writable, suits_input, suits_output, Member, VariableType, members_of, same_name, Name, name_of, Scope, entity_of, Assignment, Term, Validates}
@@ -82,7 +82,7 @@ pub refused_at : (X : Type 0) (found rest : Option Refusal) (fault : Fault) (num
 refused_at X found rest fault number place is h = subst (λ one. Validates {X = X} found rest (Err one)) is h
 
 -- one of a list as the verifier is asked of it
-pub same_assignment : (tokens : List Token) (item : Item) (assignment : Assignment) (name : List ℕ) (value : List Token) (term : Term) → IsListedAs tokens item assignment
+pub same_assignment : (tokens : List Token) (item : ListItem) (assignment : Assignment) (name : List ℕ) (value : List Token) (term : Term) → IsListedAs tokens item assignment
     → name ≡ text_at tokens item.name → value ≡ tokens_at tokens item.value item.count → Some term ≡ operand_in value
     → assignment ≡ record { direction = item.direction; formal = name_of name; actual = term }
 same_assignment tokens item assignment name value term listed named there read =
@@ -92,7 +92,7 @@ same_assignment tokens item assignment name value term listed named there read =
     λ i. record { direction = listed.direction i; formal = formal i; actual = same i }
 
 -- what is known of those before a number: the next one is where it is, their names are kept, and none of them breaks a rule
-pub record NoneBroken (tables : Tables) (unit : ℕ) (declared : DeclaredType) (tokens : List Token) (names : List Name) (item : Item) (n : ℕ) : Type 0 where
+pub record NoneBroken (tables : Tables) (unit : ℕ) (declared : DeclaredType) (tokens : List Token) (names : List Name) (item : ListItem) (n : ℕ) : Type 0 where
   pub here : item ≡ item_at tokens n
   pub held : (arguments : List Assignment) (position : Position Assignment) → AreListed tokens arguments → slice_get (positions_of arguments) n ≡ Some position
       → HoldsNames names position.before
@@ -100,7 +100,7 @@ pub record NoneBroken (tables : Tables) (unit : ℕ) (declared : DeclaredType) (
       → numbered_type scope.before type ≡ Some declared → AreListed tokens arguments → j < n → slice_get (positions_of arguments) j ≡ Some earlier
       → broken_at scope line (members_of scope.before type) earlier ≡ None
 
-pub at_first : (tables : Tables) (unit : ℕ) (declared : DeclaredType) (tokens : List Token) (names : List Name) (item : Item) → names ≡ [] → item ≡ item_after tokens 2
+pub at_first : (tables : Tables) (unit : ℕ) (declared : DeclaredType) (tokens : List Token) (names : List Name) (item : ListItem) → names ≡ [] → item ≡ item_after tokens 2
     → NoneBroken tables unit declared tokens names item 0
 unfolding item_at
 at_first tables unit declared tokens names item none is = record {
@@ -110,11 +110,11 @@ at_first tables unit declared tokens names item none is = record {
   none = λ scope type line arguments j earlier is num listed below there. absurd (omega (arith, below));
 }
 
-module _ (tables : Tables) (unit : ℕ) (declared : DeclaredType) (tokens : List Token) (names : List Name) (item : Item) (n : ℕ) (so_far : NoneBroken tables unit declared tokens names item n) where
+module _ (tables : Tables) (unit : ℕ) (declared : DeclaredType) (tokens : List Token) (names : List Name) (item : ListItem) (n : ℕ) (so_far : NoneBroken tables unit declared tokens names item n) where
   -- the item is that of the position
   listed_here : (arguments : List Assignment) (position : Position Assignment) → AreListed tokens arguments → slice_get (positions_of arguments) n ≡ Some position → IsListedAs tokens item position.item
   listed_here arguments position listed there =
-      subst (λ (one : Item). IsListedAs tokens one position.item) (sym so_far.here) (listed n position.item (item_there [] arguments n position there))
+      subst (λ (one : ListItem). IsListedAs tokens one position.item) (sym so_far.here) (listed n position.item (item_there [] arguments n position there))
 
   module _ (found : Option ℕ) (rule : RuleIs tables unit declared tokens names item found) where
     pub broken_here : (scope : Scope) (type : VariableType) (line : ℕ) (arguments : List Assignment) (position : Position Assignment) → IsScope tables unit scope
@@ -124,10 +124,10 @@ module _ (tables : Tables) (unit : ℕ) (declared : DeclaredType) (tokens : List
         rule scope type line position is num (listed_here arguments position listed there) (so_far.held arguments position listed there)
 
     -- it breaks none: one more
-    pub one_further : (more : List Name) (next : Item) → found ≡ None → KeepsNames tokens names more item → next ≡ item_after tokens item.end → NoneBroken tables unit declared tokens more next (n + 1)
+    pub one_further : (more : List Name) (next : ListItem) → found ≡ None → KeepsNames tokens names more item → next ≡ item_after tokens item.end → NoneBroken tables unit declared tokens more next (n + 1)
     unfolding item_at
     one_further more next is_none keeps is = record {
-      here = is ∙ ap (λ (one : Item). item_after tokens one.end) so_far.here ∙ ap (item_at tokens) (sym (add-one n));
+      here = is ∙ ap (λ (one : ListItem). item_after tokens one.end) so_far.here ∙ ap (item_at tokens) (sym (add-one n));
       held = λ arguments position listed there.
           let at : slice_get (positions_of arguments) (suc n) ≡ Some position = ap (slice_get (positions_of arguments)) (sym (add-one n)) ∙ there in
           let after = previous_of [] arguments n position at in
@@ -183,16 +183,16 @@ module _ (tables : Tables) (unit : ℕ) (declared : DeclaredType) (tokens : List
             let two = sym (here one.0 one.1) ∙ first.none_before n one.0 more one.1 in absurd (cc)
 
 -- as many items as tokens before the end of a list are not in it
-pub all_looked_at : (tables : Tables) (unit : ℕ) (declared : DeclaredType) (tokens : List Token) (names : List Name) (item : Item) (n : ℕ) → NoneBroken tables unit declared tokens names item n
+pub all_looked_at : (tables : Tables) (unit : ℕ) (declared : DeclaredType) (tokens : List Token) (names : List Name) (item : ListItem) (n : ℕ) → NoneBroken tables unit declared tokens names item n
     → list_end tokens ≤ n → (scope : Scope) (type : VariableType) (line k number : ℕ) (arguments : List Assignment) → IsScope tables unit scope
     → numbered_type scope.before type ≡ Some declared → AreListed tokens arguments → IsFirstBrokenOf scope line (members_of scope.before type) arguments number k → ⊥
 all_looked_at tables unit declared tokens names item n so_far all scope type line k number arguments is num listed first =
     past_end tables unit declared tokens names item n so_far scope type line k number arguments
     (let far = item_far tokens n in let within = prefix_len-le-length (λ (token : Token). not (is_shape Closing token.shape)) tokens in
-    let here = ap (λ (one : Item). one.name) so_far.here in omega (arith, all, far, within, here)) is num listed first
+    let here = ap (λ (one : ListItem). one.name) so_far.here in omega (arith, all, far, within, here)) is num listed first
 
 -- what is found is one of a number
-abbrev item_or : Item → Option BrokenItem → Item
+abbrev item_or : ListItem → Option BrokenItem → ListItem
 item_or other None = other
 item_or other (Some broken) = broken.item
 
@@ -200,12 +200,12 @@ abbrev number_or : ℕ → Option BrokenItem → ℕ
 number_or other None = other
 number_or other (Some broken) = broken.number
 
-pub same_broken : (found : Option BrokenItem) (broken : BrokenItem) (item : Item) (number : ℕ) → found ≡ Some broken → found ≡ Some (record { item = item; number = number })
+pub same_broken : (found : Option BrokenItem) (broken : BrokenItem) (item : ListItem) (number : ℕ) → found ≡ Some broken → found ≡ Some (record { item = item; number = number })
     → (broken.item ≡ item) × (broken.number ≡ number)
 same_broken found broken item number here there = (ap (item_or item) (sym here ∙ there), ap (number_or number) (sym here ∙ there))
 
 -- the tokens of one of a list to which a refusal refers are in the list
-argument_there : (tokens : List Token) (number : ℕ) (item : Item) (a : Assignment) → IsListedAs tokens item a
+argument_there : (tokens : List Token) (number : ℕ) (item : ListItem) (a : Assignment) → IsListedAs tokens item a
     → (argument_from number item + argument_count number item ≤ list_end tokens) × (begins_item tokens (argument_from number item) ≡ true)
 argument_there tokens number item a listed = by (means_name number)
   where

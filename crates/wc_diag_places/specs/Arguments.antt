@@ -3,7 +3,7 @@ use Rattle.std.specs.Prelude.{◌≡◌, ◌<◌, ◌==◌, ◌||◌, ℕ, Bool,
 use Rattle.wc_diag_places.specs.OperandTokens.{tokens_at}
 use Rattle.wc_diag_places.specs.Lists.{AreListed, IsListedAs, item_at, text_at}
 use Rattle.wc_diag_places.specs.declared.arguments.BrokenItem.{BrokenItem}
-use Rattle.wc_diag_places.specs.declared.arguments.Item.{Item}
+use Rattle.wc_diag_places.specs.declared.arguments.ListItem.{ListItem}
 use Rattle.wc_lexer.specs.declared.shape.Token.{Token}
 use Rattle.wc_model.specs.Definitions.{argument_checks, is_instance, Member, VariableType, members_of, Name, name_of, Scope, type_of, Assignment}
 use Rattle.wc_model.specs.Language.Checks.{Position, Refusal, first_broken, positions_of}
@@ -17,13 +17,13 @@ abbrev pub broken_at : Scope → ℕ → List Member → Position Assignment →
 broken_at scope line members position = first_broken (argument_checks scope line members position)
 
 -- what is found of an item after those whose names are kept: the rule that it breaks first, if it breaks one
-abbrev pub RuleIs : Tables → ℕ → DeclaredType → List Token → List Name → Item → Option ℕ → Type 0
+abbrev pub RuleIs : Tables → ℕ → DeclaredType → List Token → List Name → ListItem → Option ℕ → Type 0
 RuleIs tables unit declared tokens names item found =
     (scope : Scope) (type : VariableType) (line : ℕ) (position : Position Assignment) → IsScope tables unit scope → numbered_type scope.before type ≡ Some declared
     → IsListedAs tokens item position.item → HoldsNames names position.before → broken_at scope line (members_of scope.before type) position ≡ first_at found line None
 
 -- and its name is kept after theirs
-abbrev pub KeepsNames : List Token → (names more : List Name) → Item → Type 0
+abbrev pub KeepsNames : List Token → (names more : List Name) → ListItem → Type 0
 KeepsNames tokens names more item =
     (position : Position Assignment) → IsListedAs tokens item position.item → HoldsNames names position.before → HoldsNames more (position.item ∷ position.before)
 
@@ -47,10 +47,10 @@ FindsBroken tables unit declared tokens found =
 abbrev pub means_name : ℕ → Bool
 means_name number = (number == 409) || (number == 410)
 
-abbrev pub argument_from : ℕ → Item → ℕ
+abbrev pub argument_from : ℕ → ListItem → ℕ
 argument_from number item = if means_name number then item.name else item.value
 
-abbrev pub argument_count : ℕ → Item → ℕ
+abbrev pub argument_count : ℕ → ListItem → ℕ
 argument_count number item = if means_name number then 1 else item.count
 
 -- these tokens from an index on are those to which a refusal of that number refers in the list of a call of an instance of that type

@@ -4,7 +4,7 @@ use Rattle.std.specs.Prelude.{◌≡◌, ◌≤◌, ◌+◌, ◌-◌, ℕ, zero,
 use Rattle.std.specs.List.{position_or_len}
 use Rattle.std.specs.Option.{option_map_or}
 use Rattle.wc_diag_places.specs.OperandTokens.{begins_item, is_point, is_shape, list_end, tokens_at}
-use Rattle.wc_diag_places.specs.declared.arguments.Item.{Item}
+use Rattle.wc_diag_places.specs.declared.arguments.ListItem.{ListItem}
 use Rattle.wc_lexer.specs.declared.shape.Shape.{Shape}
 use Rattle.wc_lexer.specs.declared.shape.Shape.TheVariants.{Arrow, LineEnd}
 use Rattle.wc_lexer.specs.declared.shape.Token.{Token}
@@ -35,7 +35,7 @@ value_end tokens value =
     if is_point (slice_get tokens (mark_after tokens value)) then mark_after tokens (mark_after tokens value) else value
 
 -- one of a list, after the `(` or the comma at an index
-abbrev pub item_after : List Token → ℕ → Item
+abbrev pub item_after : List Token → ℕ → ListItem
 item_after tokens index =
     let name = mark_after tokens index in
     let sign = mark_after tokens name in
@@ -49,7 +49,7 @@ item_after tokens index =
     }
 
 -- the one of that number, counted by commas from 0
-unfoldable pub item_at : List Token → ℕ → Item
+unfoldable pub item_at : List Token → ℕ → ListItem
 item_at tokens zero = item_after tokens 2
 item_at tokens (suc n) = item_after tokens (item_at tokens n).end
 
@@ -70,7 +70,7 @@ operand_in operand_tokens =
     ]
 
 -- What one of a list assigns or gives out: its tokens are that assignment, between the `(` and the `)`.
-pub record IsListedAs (tokens : List Token) (item : Item) (assignment : Assignment) : Type 0 where
+pub record IsListedAs (tokens : List Token) (item : ListItem) (assignment : Assignment) : Type 0 where
   pub direction : assignment.direction ≡ item.direction
   pub formal : assignment.formal ≡ name_of (text_at tokens item.name)
   pub actual : Some assignment.actual ≡ operand_in (tokens_at tokens item.value item.count)

@@ -13,7 +13,7 @@ use wc_verify::validate_argument;
 
 /// One of a call's list: where its name and its value are, and the comma or `)` after it.
 #[derive(Clone, Copy)]
-pub(crate) struct Item {
+pub(crate) struct ListItem {
     pub(crate) name: usize,
     pub(crate) value: usize,
     pub(crate) count: usize,
@@ -72,14 +72,14 @@ fn value_end(tokens: &[Token<'_>], value: usize) -> usize
 }
 
 /// One of a call's list, after the `(` or the comma at an index.
-pub(crate) fn item_after(tokens: &[Token<'_>], index: usize) -> Item
+pub(crate) fn item_after(tokens: &[Token<'_>], index: usize) -> ListItem
     ensures { result ≡ item_after tokens.now index }
 {
     let name = mark_after(tokens, index);
     let sign = mark_after(tokens, name);
     let value = mark_after(tokens, sign);
     let last = value_end(tokens, value);
-    Item {
+    ListItem {
         name,
         value,
         count: last.saturating_sub(value) + 1,
@@ -98,7 +98,7 @@ pub(crate) fn text_at<'a>(tokens: &[Token<'a>], index: usize) -> &'a [u8]
 /// One of a call's list that breaks a rule, with the number of the rule.
 #[derive(Clone, Copy)]
 pub(crate) struct BrokenItem {
-    pub(crate) item: Item,
+    pub(crate) item: ListItem,
     pub(crate) number: u16,
 }
 
@@ -109,7 +109,7 @@ fn broken_rule<'a>(
     unit: usize,
     declared: DeclaredType,
     tokens: &[Token<'a>],
-    item: Item,
+    item: ListItem,
 ) -> Result<Option<u16>, Fault>
     ensures rule { IfOk result (RuleIs tables.now unit declared tokens.now names.old item) }
     ensures held { IfOk result

@@ -22,19 +22,19 @@ use wc_reader::{Progress, at_text_end, last_line, read_at, reading_start, take_l
 
 /// A fault that is found, and what could be there.
 #[derive(Clone, Copy)]
-struct RaisedFault {
+struct FaultAt {
     fault: Fault,
     expected: Expected,
 }
 
 /// Where the reading of these tokens stops; nothing if they are read. As the reader does, it takes
 /// short lines in one step: there is no fault in them.
-fn raised_on<'a>(
+fn fault_at<'a>(
     alloc: Global,
     reading: &mut Progress<'a>,
     tokens: &[Token<'a>],
     last: u32,
-) -> Option<RaisedFault>
+) -> Option<FaultAt>
     requires { IsStateCounted reading.old.state }
     ensures read { IfNone result
         (ReadsText (walk (reading_view reading.old) (marks_of tokens.now) last)) }
@@ -50,18 +50,18 @@ fn raised_on<'a>(
     while place < tokens.len() {
         let expected = expected_at(reading);
         if let Err(fault) = read_at(alloc, reading, tokens, place) {
-            return Some(RaisedFault { fault, expected });
+            return Some(FaultAt { fault, expected });
         }
         let Ok(next) = take_lines(alloc, reading, tokens, place + 1) else {
             let fault = Fault::Memory;
-            return Some(RaisedFault { fault, expected });
+            return Some(FaultAt { fault, expected });
         };
         place = next;
     }
     let expected = expected_at(reading);
     match at_text_end(alloc, reading, last) {
         Ok(_) => None,
-        Err(fault) => Some(RaisedFault { fault, expected }),
+        Err(fault) => Some(FaultAt { fault, expected }),
     }
 }
 
@@ -161,7 +161,7 @@ fn offending_slice(text: &[u8], offending: Option<&Token<'_>>) -> (usize, usize)
 }
 
 /// What is found in these tokens, with its line and its slice.
-fn stop_at(text: &[u8], tokens: &[Token<'_>], raised: RaisedFault) -> RefusalSpan
+fn stop_at(text: &[u8], tokens: &[Token<'_>], raised: FaultAt) -> RefusalSpan
     requires { length text.now ≤ most_bytes }
     ensures { IsStopAt text.now tokens.now raised.fault raised.expected result }
 {
@@ -191,7 +191,7 @@ fn stop_in(alloc: Global, text: &[u8], tokens: &mut [Token<'_>]) -> Option<Refus
 {
     exchange(tokens);
     let last = text.len() as u32;
-    let raised = raised_on(alloc, &mut reading_start(alloc), tokens, last);
+    let raised = fault_at(alloc, &mut reading_start(alloc), tokens, last);
     exchange(tokens);
     match raised {
         Some(raised) => Some(stop_at(text, tokens, raised)),

@@ -10,10 +10,10 @@ use Rattle.wc_diag_warnings.specs.{action_jumps, action_leaves, is_on, Source, A
 use Rattle.wc_diag_warnings.specs.declared.edges.Ahead.{Ahead}
 use Rattle.wc_diag_warnings.specs.declared.events.Action.{Action as CodeAction}
 use Rattle.wc_diag_warnings.specs.declared.events.Action.TheVariants.{Jump}
-use Rattle.wc_diag_warnings.specs.declared.edges.Paths.{Paths}
+use Rattle.wc_diag_warnings.specs.declared.edges.PathSources.{PathSources}
 
 -- the paths to an event go on to the next one, and to the label to which it jumps
-pub followed_more : (before : List BodyEvent) (e : BodyEvent) (old new : Ahead) (paths : Paths) → IsFollowed before old → AreFrom paths before e →
+pub followed_more : (before : List BodyEvent) (e : BodyEvent) (old new : Ahead) (paths : PathSources) → IsFollowed before old → AreFrom paths before e →
     ((source : Source) → is_from new.next source ≡ (not (action_leaves e.action) && (is_from paths source || marks source e))) →
     ((source : Source) (key : Key) → leads new.labels (name_of_key key) source ≡ ((is_from paths source && action_jumps e.action (name_of_key key)) || leads old.labels (name_of_key key) source)) →
     IsFollowed (e ∷ before) new
@@ -31,12 +31,12 @@ not_led (Jump condition label) other name from led = absurd (other condition lab
 not_led action other name from led = grind arith
 
 -- paths that are kept, or none
-kept_is : (none : Paths) (source : Source) (kept : Option Paths) → is_from none source ≡ false → is_from (unwrap_or kept none) source ≡ option_map_or (λ paths. is_from paths source) kept false
+kept_is : (none : PathSources) (source : Source) (kept : Option PathSources) → is_from none source ≡ false → is_from (unwrap_or kept none) source ≡ option_map_or (λ paths. is_from paths source) kept false
 kept_is none source None e = e
 kept_is none source (Some paths) e = refl
 
 -- more paths are kept for a label
-pub led_more : {S : Type 0} (old new : IndexMap Key Paths S) (label : Key) (none kept paths all : Paths) → Updates same_key old new label (Some all) →
+pub led_more : {S : Type 0} (old new : IndexMap Key PathSources S) (label : Key) (none kept paths all : PathSources) → Updates same_key old new label (Some all) →
     ((source : Source) → is_from none source ≡ false) → kept ≡ unwrap_or (get same_key old label) none → ((source : Source) → is_from all source ≡ (is_from paths source || is_from kept source)) →
     (source : Source) (other : Key) → leads new (name_of_key other) source ≡ ((is_from paths source && same_name (name_of_key label) (name_of_key other)) || leads old (name_of_key other) source)
 led_more old new label none kept paths all update empty had both source other =

@@ -12,7 +12,7 @@ use Rattle.wc_names.specs.declared.key.Key.{Key}
 use Rattle.wc_diag_warnings.specs.Events.{Action, Labels, Jumps, Returns, BodyEvent}
 use Rattle.wc_diag_warnings.specs.Uses.{stores}
 use Rattle.wc_diag_warnings.specs.declared.edges.Ahead.{Ahead}
-use Rattle.wc_diag_warnings.specs.declared.edges.Paths.{Paths}
+use Rattle.wc_diag_warnings.specs.declared.edges.PathSources.{PathSources}
 
 -- no run goes on from it to the next event
 abbrev pub action_leaves : Action → Bool
@@ -76,16 +76,16 @@ abbrev pub edges : Source → List BodyEvent → List Passed
 edges source before = passed (starts source) (marks source) before
 
 -- one of the paths comes from there
-abbrev pub is_from : Paths → Source → Bool
+abbrev pub is_from : PathSources → Source → Bool
 is_from paths Start = paths.started
 is_from paths (Store output) = nat_eq (bit_at paths.stored output) 1
 
 -- these are the paths to an event after those before
-abbrev pub AreFrom : Paths → List BodyEvent → BodyEvent → Type 0
+abbrev pub AreFrom : PathSources → List BodyEvent → BodyEvent → Type 0
 AreFrom paths before e = (source : Source) → is_from paths source ≡ is_on (starts source) (marks source) before e
 
 -- one of the paths that are kept for a label comes from there
-abbrev pub leads : {S : Type 0} → IndexMap Key Paths S → Name → Source → Bool
+abbrev pub leads : {S : Type 0} → IndexMap Key PathSources S → Name → Source → Bool
 leads labels name source = option_map_or (λ paths. is_from paths source) (get_by (λ key. same_name (name_of_key key) name) labels) false
 
 -- the paths that go on from the events before, newest first: to the next, and to labels

@@ -8,7 +8,7 @@ ghost use Rattle.wc_diag_warnings.specs.Warnings.{address_of, body_warnings, act
 
 use crate::addresses::{FIRST_OUTPUT, is_asked, reads_weight, stored_variable};
 use crate::declared::warn;
-use crate::edges::{Paths, at_start, follow, is_stored, paths_to};
+use crate::edges::{PathSources, at_start, follow, is_stored, paths_to};
 use crate::events::{Action, Event};
 use crate::warning::Warning;
 use std::alloc::{AllocError, Global};
@@ -85,7 +85,7 @@ fn is_output(kind: UnitKind, number: u8) -> bool
 }
 
 /// Whether the event stores an output that is stored on a path to it.
-fn is_again(kind: UnitKind, event: &Event<'_>, paths: Paths) -> bool
+fn is_again(kind: UnitKind, event: &Event<'_>, paths: PathSources) -> bool
     ensures { (before : List BodyEvent) → AreFrom paths before (event_view event.now)
         → result ≡ is_stored_again (outputs_in kind) before (event_view event.now) }
 {

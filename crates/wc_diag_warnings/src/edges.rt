@@ -15,7 +15,7 @@ use wc_names::Key;
 
 /// From where paths come to an event.
 #[derive(Clone, Copy)]
-pub(crate) struct Paths {
+pub(crate) struct PathSources {
     /// Whether one comes from the body's start.
     pub(crate) started: bool,
     /// The outputs from a store of which one comes: the bit of each one's number.
@@ -23,40 +23,40 @@ pub(crate) struct Paths {
 }
 
 /// No paths.
-fn no_paths() -> Paths
+fn no_paths() -> PathSources
     ensures { (source : Source) → is_from result source ≡ false }
 {
-    Paths {
+    PathSources {
         started: false,
         stored: 0,
     }
 }
 
 /// All of these and those.
-fn both(these: Paths, those: Paths) -> Paths
+fn both(these: PathSources, those: PathSources) -> PathSources
     ensures { (source : Source) → is_from result source
         ≡ (is_from these source || is_from those source) }
 {
-    Paths {
+    PathSources {
         started: these.started | those.started,
         stored: these.stored | those.stored,
     }
 }
 
 /// These, and one from a store of the output of that number.
-fn from_store(paths: Paths, output: u8) -> Paths
+fn from_store(paths: PathSources, output: u8) -> PathSources
     requires { output < 64 }
     ensures { (source : Source) → is_from result source
         ≡ (is_from paths source || is_store output source) }
 {
-    Paths {
+    PathSources {
         started: paths.started,
         stored: paths.stored | 1 << output,
     }
 }
 
 /// Whether one comes from a store of the output of that number.
-pub(crate) fn is_stored(paths: Paths, output: u8) -> bool
+pub(crate) fn is_stored(paths: PathSources, output: u8) -> bool
     requires { output < 64 }
     ensures { result ≡ is_from paths (Store output) }
 {
@@ -66,9 +66,9 @@ pub(crate) fn is_stored(paths: Paths, output: u8) -> bool
 /// Where the paths to the events before go on.
 #[derive(Drop)]
 pub(crate) struct Ahead<'a> {
-    next: Paths,
+    next: PathSources,
     /// Those by jumps to each label.
-    labels: IndexMap<Key<'a>, Paths>,
+    labels: IndexMap<Key<'a>, PathSources>,
 }
 
 /// What is ahead at the start of a body.
@@ -76,7 +76,7 @@ pub(crate) fn at_start<'a>(alloc: Global) -> Ahead<'a>
     ensures { IsFollowed [] result }
 {
     Ahead {
-        next: Paths {
+        next: PathSources {
             started: true,
             stored: 0,
         },
@@ -96,7 +96,7 @@ fn leaves(event: &Event<'_>) -> bool
 }
 
 /// The paths to the event that go on to the next, and one that begins with the event if it stores an output.
-fn onward(event: &Event<'_>, paths: Paths) -> Paths
+fn onward(event: &Event<'_>, paths: PathSources) -> PathSources
     ensures { (source : Source) → is_from result source
         ≡ (not (action_leaves (event_view event.now).action)
         && (is_from paths source || marks source (event_view event.now))) }
@@ -111,7 +111,7 @@ fn onward(event: &Event<'_>, paths: Paths) -> Paths
 }
 
 /// The paths by jumps to a label.
-fn to_label(labels: &IndexMap<Key<'_>, Paths>, label: &[u8]) -> Paths
+fn to_label(labels: &IndexMap<Key<'_>, PathSources>, label: &[u8]) -> PathSources
     ensures { (source : Source) → is_from result source
         ≡ leads labels.now (name_of label.now) source }
 {
@@ -121,7 +121,7 @@ fn to_label(labels: &IndexMap<Key<'_>, Paths>, label: &[u8]) -> Paths
 }
 
 /// The paths to the event after those before.
-pub(crate) fn paths_to(ahead: &Ahead<'_>, event: &Event<'_>) -> Paths
+pub(crate) fn paths_to(ahead: &Ahead<'_>, event: &Event<'_>) -> PathSources
     ensures { (before : List BodyEvent) → IsFollowed before ahead.now
         → AreFrom result before (event_view event.now) }
 {
@@ -133,9 +133,9 @@ pub(crate) fn paths_to(ahead: &Ahead<'_>, event: &Event<'_>) -> Paths
 
 /// Adds paths by a jump to a label.
 fn lead<'a>(
-    labels: &mut IndexMap<Key<'a>, Paths>,
+    labels: &mut IndexMap<Key<'a>, PathSources>,
     label: &'a [u8],
-    paths: Paths,
+    paths: PathSources,
 ) -> Result<(), AllocError>
     ensures led { OnOk result ((source : Source) (key : Keyed)
         → leads labels.new (name_of_key key) source
@@ -152,7 +152,7 @@ fn lead<'a>(
 pub(crate) fn follow<'a>(
     ahead: &mut Ahead<'a>,
     event: &Event<'a>,
-    paths: Paths,
+    paths: PathSources,
 ) -> Result<(), AllocError>
     ensures followed { OnOk result ((before : List BodyEvent) → IsFollowed before ahead.old
         → AreFrom paths before (event_view event.now)

@@ -6,8 +6,8 @@ macro_rules! with_constants {
         $macro!(
             "0.1.0",
             "rattle-kit-13 logic dac8208d650f15bf",
-            "78dadf184ff25c88e3fdf333e5a8b7116918528ce6b27960d8f3f36f6be54337",
-            "a60d9eb54bfd4664f05d62548c9c5f1c2265b0aec2bebde05570855f84214355"
+            "4ffae1e3f501a9c6eb2b0458cb4eba15e974554c74e6c7cab54a2c9002bbd7cb",
+            "a4831e2ff16d6e40b1169e84ee3c6607bfd21efdfcad288e523ef6944dbb1b3b"
         )
     };
 }

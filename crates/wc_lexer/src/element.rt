@@ -27,7 +27,7 @@ pub(crate) enum LexicalElement {
 
 /// What a comment's inside says.
 fn comment(inside: &[u8]) -> LexicalElement
-    ensures represents { sight_of result ≡ sight_in_comment inside.now (from_bracket inside.now) }
+    ensures sight { sight_of result ≡ sight_in_comment inside.now (from_bracket inside.now) }
     ensures within { IsWithin (length inside.now + 2) result }
 {
     match from_bracket(inside) {
@@ -40,7 +40,7 @@ fn comment(inside: &[u8]) -> LexicalElement
 /// The longest lexeme that is here, by its length and its shape.
 #[inline(never)]
 fn any_lexeme(text: &[u8]) -> LexicalElement
-    ensures represents { sight_of result ≡ sight_by_reach (reach text.now) text.now }
+    ensures sight { sight_of result ≡ sight_by_reach (reach text.now) text.now }
     ensures within { IsWithin (length text.now) result }
 {
     let count = lexeme_length(text);
@@ -57,7 +57,7 @@ fn any_lexeme(text: &[u8]) -> LexicalElement
 /// called.
 #[inline(always)]
 fn parse_rare_lexeme(text: &[u8]) -> LexicalElement
-    ensures represents { sight_of result ≡ sight_by_reach (reach text.now) text.now }
+    ensures sight { sight_of result ≡ sight_by_reach (reach text.now) text.now }
     ensures within { IsWithin (length text.now) result }
 {
     let found = any_lexeme(text);
@@ -68,7 +68,7 @@ fn parse_rare_lexeme(text: &[u8]) -> LexicalElement
 #[inline(always)]
 fn word(text: &[u8]) -> LexicalElement
     requires { begins starts_identifier text.now ≡ true }
-    ensures represents { sight_of result ≡ sight_by_reach (reach text.now) text.now }
+    ensures sight { sight_of result ≡ sight_by_reach (reach text.now) text.now }
     ensures within { IsWithin (length text.now) result }
 {
     let (count, has_single) = identifier_prefix(text);
@@ -86,7 +86,7 @@ fn word(text: &[u8]) -> LexicalElement
 #[inline(never)]
 fn any_number(text: &[u8]) -> LexicalElement
     requires { begins is_ascii_digit text.now ≡ true }
-    ensures represents { sight_of result ≡ sight_by_reach (reach text.now) text.now }
+    ensures sight { sight_of result ≡ sight_by_reach (reach text.now) text.now }
     ensures within { IsWithin (length text.now) result }
 {
     let Some((count, size)) = plain_number(text) else {
@@ -103,7 +103,7 @@ fn any_number(text: &[u8]) -> LexicalElement
 #[inline(always)]
 fn number(text: &[u8]) -> LexicalElement
     requires { begins is_ascii_digit text.now ≡ true }
-    ensures represents { sight_of result ≡ sight_by_reach (reach text.now) text.now }
+    ensures sight { sight_of result ≡ sight_by_reach (reach text.now) text.now }
     ensures within { IsWithin (length text.now) result }
 {
     let found = any_number(text);
@@ -114,7 +114,7 @@ fn number(text: &[u8]) -> LexicalElement
 #[inline(never)]
 fn any_element(text: &[u8]) -> LexicalElement
     requires { 1 ≤ length text.now }
-    ensures represents { sight_of result ≡ sight text.now }
+    ensures sight { sight_of result ≡ sight text.now }
     ensures within { IsWithin (length text.now) result }
 {
     if opens_comment(text) {
@@ -131,7 +131,7 @@ fn any_element(text: &[u8]) -> LexicalElement
 #[inline(always)]
 fn other_element(text: &[u8]) -> LexicalElement
     requires { 1 ≤ length text.now }
-    ensures represents { sight_of result ≡ sight text.now }
+    ensures sight { sight_of result ≡ sight text.now }
     ensures within { IsWithin (length text.now) result }
 {
     let found = any_element(text);
@@ -142,7 +142,7 @@ fn other_element(text: &[u8]) -> LexicalElement
 #[inline(always)]
 fn colon(text: &[u8]) -> LexicalElement
     requires { begins (λ byte. byte == 58) text.now ≡ true }
-    ensures represents { sight_of result ≡ sight text.now }
+    ensures sight { sight_of result ≡ sight text.now }
     ensures within { IsWithin (length text.now) result }
 {
     let after = following_first(text);
@@ -157,7 +157,7 @@ fn colon(text: &[u8]) -> LexicalElement
 #[inline(always)]
 pub(crate) fn first_element(text: &[u8]) -> LexicalElement
     requires { 1 ≤ length text.now }
-    ensures represents { sight_of result ≡ sight text.now }
+    ensures sight { sight_of result ≡ sight text.now }
     ensures within { IsWithin (length text.now) result }
 {
     match text {

@@ -28,7 +28,7 @@ pub struct SeenLine {
 
 /// What is known of a line before it is executed.
 #[derive(Clone, Copy)]
-pub(crate) struct StartedLine {
+pub(crate) struct LineStart {
     pub(crate) depth: u32,
     pub(crate) source: u32,
     pub(crate) line: Code,
@@ -66,14 +66,14 @@ pub(crate) fn start_line<S: Store>(
     source: u32,
     base: usize,
     depth: u32,
-) -> StartedLine
+) -> LineStart
     requires capacity { length (S.slot_kinds store.now) ≤ 65536 }
     requires there { IsWritable base (S.slot_kinds store.now) (S.numbers store.now) current
         line.now }
     ensures { result ≡ started_line depth source line.now base (S.slot_kinds store.now)
         (S.numbers store.now) present current }
 {
-    StartedLine {
+    LineStart {
         depth,
         source,
         line: *line,
@@ -90,7 +90,7 @@ pub(crate) trait LineObserver {
     ghost is_shown: { Self → Self → List SeenLine → Type 0 };
 
     /// Shows it a line that was executed, with the number that the machine keeps after it.
-    fn show(&mut self, line: &StartedLine, current: i32)
+    fn show(&mut self, line: &LineStart, current: i32)
         ensures shown { is_shown self.old self.new (shown_line line.now current ∷ []) };
 
     ghost shown_none: { (observer : Self) → is_shown observer observer [] };
@@ -112,7 +112,7 @@ impl LineObserver for NoObserver {
     ghost shown_more = { λ old between new lines more before after. tt };
 
     #[inline(always)]
-    fn show(&mut self, _line: &StartedLine, _current: i32) {}
+    fn show(&mut self, _line: &LineStart, _current: i32) {}
 }
 
 /// The lines that were seen so far.
@@ -163,7 +163,7 @@ impl LineObserver for Sight {
 
     ghost shown_more = { keeps_more };
 
-    fn show(&mut self, line: &StartedLine, current: i32) {
+    fn show(&mut self, line: &LineStart, current: i32) {
         if self.lost {
             return;
         }

@@ -13,7 +13,7 @@ use Rattle.wc_built_in.specs.Fields.{Seen, member_seen}
 use Rattle.wc_names.specs.{kind_numbered, row_seen, number_within, numbered_formal, numbered_type, is_allowed_in, Represents, row_named}
 use Rattle.wc_names.specs.declared.declared_type.DeclaredType.{DeclaredType}
 use Rattle.wc_names.specs.declared.declared_type.DeclaredType.TheVariants as numbered
-use Rattle.wc_names.specs.declared.formal.Formal.{Formal as FoundFormal}
+use Rattle.wc_names.specs.declared.formal.FormalSlot.{FormalSlot as FoundFormal}
 use Rattle.wc_names.specs.declared.unit_table.UnitTable.{UnitTable}
 use Rattle.wc_names.specs.declared.variable.Variable.{Variable as Row}
 use Rattle.wc_names.proofs.Entities.{found_name}

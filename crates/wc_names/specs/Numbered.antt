@@ -7,7 +7,7 @@ use Rattle.wc_names.specs.declared.declared_type.DeclaredType.{DeclaredType}
 use Rattle.wc_names.specs.declared.declared_type.DeclaredType.TheVariants as numbered
 use Rattle.wc_names.specs.declared.entity.Entity.{Entity as FoundEntity}
 use Rattle.wc_names.specs.declared.field.Field.{Field}
-use Rattle.wc_names.specs.declared.formal.Formal.{Formal}
+use Rattle.wc_names.specs.declared.formal.FormalSlot.{FormalSlot}
 
 -- the unit of that number in the text, in text order from 0, with those before it
 abbrev pub IsUnit : Text → ℕ → Scope → Type 0
@@ -30,7 +30,7 @@ abbrev pub number_within : List ProgramUnit → VariableType → List Name → O
 number_within before type names = position_from (λ entry. same_path entry.0 names) 0 (variable_places (block_places before) (Some type) None)
 
 -- an input or output by its kind, and by the number of its place among those of an instance of the type
-abbrev pub numbered_formal : List ProgramUnit → VariableType → Member → Option Formal
+abbrev pub numbered_formal : List ProgramUnit → VariableType → Member → Option FormalSlot
 numbered_formal before type m = option_and_then (λ kind. option_map (λ n. record { kind = kind; place = n }) (number_within before type (m.name ∷ []))) (elementary_kind m.type)
 
 -- what a term names, by the number of its place in the unit's frame; an instance has no kind and no place

@@ -11,7 +11,7 @@ use wc_model::{Direction, Kind, Section};
 
 /// An input or an output of an instance.
 #[derive(Clone, Copy, PartialEq, Eq)]
-pub struct Formal {
+pub struct FormalSlot {
     pub kind: Kind,
     /// Its place, counted from the first place of the instance.
     pub place: u16,
@@ -33,7 +33,7 @@ pub(crate) fn formal_of<'a>(
     declared: DeclaredType,
     direction: Direction,
     name: &[u8],
-) -> Option<Formal>
+) -> Option<FormalSlot>
     ensures { (before : List ProgramUnit) (u : ProgramUnit) (type : VariableType)
         → Represents units.now before u
         → numbered_type before type ≡ Some declared
@@ -46,5 +46,5 @@ pub(crate) fn formal_of<'a>(
     }
     let kind = member.kind?;
     let place = member.place?;
-    Some(Formal { kind, place })
+    Some(FormalSlot { kind, place })
 }

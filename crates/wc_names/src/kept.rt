@@ -11,7 +11,7 @@ use crate::declared_type::DeclaredType;
 use crate::entity::Entity;
 use crate::field::Field;
 use crate::finished::slots;
-use crate::formal::{Formal, formal_of};
+use crate::formal::{FormalSlot, formal_of};
 use crate::frame::Frame;
 use crate::located::VariablePlace;
 use crate::lookup::{address, number, row};
@@ -70,7 +70,7 @@ impl<'a> Tables<'a> {
             → IsUnit text unit scope
             → option_map (λ v. v.declared) result
             ≡ option_and_then (numbered_type scope.before) (type_of scope (name_of name.now)) }
-        ensures represents { (text : Text) (scope : Scope) (type : VariableType)
+        ensures starts { (text : Text) (scope : Scope) (type : VariableType)
             → AreTables self.now text → IsUnit text unit scope
             → type_of scope (name_of name.now) ≡ Some type
             → IfSome result (λ v. StartsAt scope (name_of name.now) type v.first) }
@@ -92,7 +92,7 @@ impl<'a> Tables<'a> {
         declared: DeclaredType,
         direction: Direction,
         name: &[u8],
-    ) -> Option<Formal>
+    ) -> Option<FormalSlot>
         ensures found { (text : Text) (unit : ℕ) (scope : Scope) (type : VariableType)
             → AreTables self.now text
             → IsUnit text unit scope

@@ -22,7 +22,7 @@ mod variable;
 pub use declared_type::DeclaredType;
 pub use entity::Entity;
 pub use field::Field;
-pub use formal::Formal;
+pub use formal::FormalSlot;
 pub use frame::Frame;
 pub use kept::Tables;
 pub use key::Key;

@@ -10,7 +10,7 @@ use Rattle.wc_model.specs.Run.Log.{LogOf, Record, first_row, has_fields, last_mo
 use Rattle.wc_record.proofs.RecordEnds.{records_are_all}
 use Rattle.wc_record.proofs.Representation.{LeadsTo, IsAt, leads}
 use Rattle.wc_record.specs.Cutting.{cut_from, after, is_cut, record_start}
-use Rattle.wc_record.specs.declared.place.Place.{Place}
+use Rattle.wc_record.specs.declared.place.LogPlace.{LogPlace}
 
 -- a record of more than three fields
 abbrev IsLong : Record → Type 0
@@ -22,7 +22,7 @@ ReadsLong None = ⊥
 ReadsLong (Some p) = IsLong p.0
 
 -- if a step does not end the record, the machine is at the next place
-still_represents : (s : State) (fields : Record) (field : List ℕ) (byte : ℕ) (q : State × Action) (place : Place) → is_end q.1 ≡ false → LeadsTo (length fields) q place → IsAt q.0 (length (fields_after q.1 fields field)) place
+still_represents : (s : State) (fields : Record) (field : List ℕ) (byte : ℕ) (q : State × Action) (place : LogPlace) → is_end q.1 ≡ false → LeadsTo (length fields) q place → IsAt q.0 (length (fields_after q.1 fields field)) place
 still_represents s fields field byte (state, act.EndRecord) place e h = cc
 still_represents s fields field byte (state, act.EndField) place e h = rw (length-append fields (field ∷ [])) h
 still_represents s fields field byte (state, act.Skip) place e h = h
@@ -43,7 +43,7 @@ ends_field act.Skip fields field e = cc
 ends_field act.Copy fields field e = cc
 
 -- if three fields have ended, the end of the text ends a record
-ends_open : (s : State) (ended : ℕ) (place : Place) → IsAt s ended place → 3 ≤ ended → ends_at_end s ≡ true
+ends_open : (s : State) (ended : ℕ) (place : LogPlace) → IsAt s ended place → 3 ≤ ended → ends_at_end s ≡ true
 ends_open st.StartRecord ended place h few = absurd (omega (arith, h.1))
 ends_open st.AfterCr ended place h few = absurd (omega (arith, h.1))
 ends_open st.StartField ended place h few = refl
@@ -54,7 +54,7 @@ ends_open st.InEscape ended place h few = absurd h
 ends_open st.InComment ended place h few = absurd h
 
 -- if three fields have ended, the record is long however it goes on
-long_record : (s : State) (fields : Record) (field xs : List ℕ) (place : Place) → IsAt s (length fields) place → 3 ≤ length fields → ReadsLong (next_record default_config s fields field xs)
+long_record : (s : State) (fields : Record) (field xs : List ℕ) (place : LogPlace) → IsAt s (length fields) place → 3 ≤ length fields → ReadsLong (next_record default_config s fields field xs)
 unfolding next_record
 long_record s fields field [] place h few =
     let ended = length-append fields (field ∷ []) in
@@ -81,7 +81,7 @@ AreAlike (Some p) None = ⊥
 AreAlike (Some p) (Some q) = ((p.0 ≡ q.0) × (p.1 ≡ q.1) × (q.2 ≡ cut_from record_start p.2) × IsAt p.1 0 record_start) ⊎ (IsLong p.0 × IsLong q.0)
 
 -- a place gives the number of fields that have ended, up to three
-ended_is : (s : State) (ended : ℕ) (place : Place) → IsAt s ended place → place.ended ≡ min 3 ended
+ended_is : (s : State) (ended : ℕ) (place : LogPlace) → IsAt s ended place → place.ended ≡ min 3 ended
 ended_is st.StartRecord ended place h = rw (h.0, h.1) refl
 ended_is st.AfterCr ended place h = rw (h.0, h.1) refl
 ended_is st.StartField ended place h = rw h.1 refl
@@ -92,7 +92,7 @@ ended_is st.InEscape ended place h = absurd h
 ended_is st.InComment ended place h = absurd h
 
 -- after the cut three fields have ended
-three_ended : (place : Place) → is_cut place ≡ true → 3 ≤ place.ended
+three_ended : (place : LogPlace) → is_cut place ≡ true → 3 ≤ place.ended
 three_ended place e = by_test (nat_le 3 place.ended) refl e
   where
     by_test : (b : Bool) → nat_le 3 place.ended ≡ b → (b && nat_le 65536 place.size) ≡ true → 3 ≤ place.ended
@@ -106,7 +106,7 @@ both_long (Some p) None h k = absurd k
 both_long (Some p) (Some q) h k = inr (h, k)
 
 -- the end of a record leads to the start of one
-at_start : (ended : ℕ) (q : State × Action) (place : Place) → is_end q.1 ≡ true → LeadsTo ended q place → (place ≡ record_start) × IsAt q.0 0 record_start
+at_start : (ended : ℕ) (q : State × Action) (place : LogPlace) → is_end q.1 ≡ true → LeadsTo ended q place → (place ≡ record_start) × IsAt q.0 0 record_start
 at_start ended (state, act.EndRecord) place e h = h
 at_start ended (state, act.EndField) place e h = cc
 at_start ended (state, act.Skip) place e h = cc
@@ -119,7 +119,7 @@ same_end true fields = inl (refl, refl, refl, (refl, refl))
 same_end false fields = tt
 
 -- the next record of a text, and of what is left of it by the cut
-pub next_alike : (s : State) (fields : Record) (field xs : List ℕ) (place : Place) → IsAt s (length fields) place
+pub next_alike : (s : State) (fields : Record) (field xs : List ℕ) (place : LogPlace) → IsAt s (length fields) place
     → AreAlike (next_record default_config s fields field xs) (next_record default_config s fields field (cut_from place xs))
 unfolding next_record cut_from
 next_alike s fields field [] place h = same_end (ends_at_end s) (fields ++ (field ∷ []))
@@ -140,7 +140,7 @@ next_alike s fields field (byte ∷ rest) place h =
 
     by_end : (b : Bool) → is_end q.1 ≡ b → (IsAt q.0 (length (fields_after q.1 fields field)) (after place byte) → AreAlike (next rest) (next left))
         → AreAlike (cond b (Some (fields_after q.1 fields field, q.0, rest)) (next rest)) (cond b (Some (fields_after q.1 fields field, q.0, left)) (next left))
-    by_end true e more = let start = at_start (length fields) q (after place byte) e led in inl (refl, refl, ap (λ (here : Place). cut_from here rest) start.0, start.1)
+    by_end true e more = let start = at_start (length fields) q (after place byte) e led in inl (refl, refl, ap (λ (here : LogPlace). cut_from here rest) start.0, start.1)
     by_end false e more = more (still_represents s fields field byte q (after place byte) e led)
 
     by_cut : (b : Bool) → is_cut place ≡ b → (IsAt q.0 (length (fields_after q.1 fields field)) (after place byte) → AreAlike (next rest) (next left))

@@ -5,7 +5,7 @@ use Rattle.wc_model.specs.Run.Log.{log_of}
 use Rattle.wc_record.proofs.CutRecords.{same_log}
 use Rattle.wc_record.specs.Cutting.{cut_from, after_opening, after_plain, log_start, record_start}
 use Rattle.wc_record.specs.Reading.{records_of}
-use Rattle.wc_record.specs.declared.place.Place.{Place}
+use Rattle.wc_record.specs.declared.place.LogPlace.{LogPlace}
 use Rattle.wc_record.specs.declared.place.ByteState.{ByteState}
 use Rattle.wc_record.specs.declared.place.ByteState.TheVariants as byte_state
 
@@ -56,7 +56,7 @@ unfolding strip_bom cut_from from
 second_kept [] = refl
 second_kept (b ∷ rest) = by_second (b == 0xBB) refl
   where
-    third : Place
+    third : LogPlace
     third = record { byte_state = byte_state.ThirdOfMark; ended = 0; size = 2 }
 
     by_second : (x : Bool) → (b == 0xBB) ≡ x → strip_bom (0xEF ∷ b ∷ cut_from (cond x third (after_plain 0 2 b)) rest) ≡ cut_from record_start (strip_bom (0xEF ∷ b ∷ rest))
@@ -69,7 +69,7 @@ unfolding strip_bom cut_from from
 mark_kept [] = refl
 mark_kept (a ∷ rest) = by_first (a == 0xEF) refl
   where
-    second : Place
+    second : LogPlace
     second = record { byte_state = byte_state.SecondOfMark; ended = 0; size = 1 }
 
     by_first : (x : Bool) → (a == 0xEF) ≡ x → strip_bom (a ∷ cut_from (cond x second (after_opening 0 1 a)) rest) ≡ cut_from record_start (strip_bom (a ∷ rest))

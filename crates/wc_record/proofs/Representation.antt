@@ -7,17 +7,17 @@ use Rattle.csv.specs.declared.parser.Action.TheVariants as act
 use Rattle.csv.specs.declared.parser.State.{State}
 use Rattle.csv.specs.declared.parser.State.TheVariants as st
 use Rattle.wc_record.specs.Cutting.{after, after_opening, after_plain, record_start}
-use Rattle.wc_record.specs.declared.place.Place.{Place}
+use Rattle.wc_record.specs.declared.place.LogPlace.{LogPlace}
 use Rattle.wc_record.specs.declared.place.ByteState.{ByteState}
 use Rattle.wc_record.specs.declared.place.ByteState.TheVariants as byte_state
 
 -- a place in a record of which n fields have ended, and some bytes were read
-abbrev pub IsIn : ByteState → ℕ → Place → Type 0
+abbrev pub IsIn : ByteState → ℕ → LogPlace → Type 0
 IsIn at ended place = (size : ℕ) × (place ≡ record { byte_state = at; ended = min 3 ended; size = size })
 
 -- if n fields have ended, a state of the machine is at this place; the default
 -- settings know no escape and no comment
-abbrev pub IsAt : State → ℕ → Place → Type 0
+abbrev pub IsAt : State → ℕ → LogPlace → Type 0
 IsAt st.StartRecord ended place = (place ≡ record_start) × (ended ≡ 0)
 IsAt st.AfterCr ended place = (place ≡ record_start) × (ended ≡ 0)
 IsAt st.StartField ended place = IsIn byte_state.Opening ended place
@@ -28,14 +28,14 @@ IsAt st.InEscape ended place = ⊥
 IsAt st.InComment ended place = ⊥
 
 -- a step of the machine leads to this place: the end of a record leads to the start of one
-abbrev pub LeadsTo : ℕ → State × Action → Place → Type 0
+abbrev pub LeadsTo : ℕ → State × Action → LogPlace → Type 0
 LeadsTo ended (state, act.EndRecord) place = (place ≡ record_start) × IsAt state 0 record_start
 LeadsTo ended (state, act.EndField) place = IsAt state (ended + 1) place
 LeadsTo ended (state, act.Copy) place = IsAt state ended place
 LeadsTo ended (state, act.Skip) place = IsAt state ended place
 
 -- either of two steps
-either : (ended : ℕ) (b : Bool) (q r : State × Action) (x y : Place) → LeadsTo ended q x → LeadsTo ended r y → LeadsTo ended (cond b q r) (cond b x y)
+either : (ended : ℕ) (b : Bool) (q r : State × Action) (x y : LogPlace) → LeadsTo ended q x → LeadsTo ended r y → LeadsTo ended (cond b q r) (cond b x y)
 either ended true q r x y h k = h
 either ended false q r x y h k = k
 
@@ -82,7 +82,7 @@ abbrev counted : ℕ → ℕ
 counted size = min 65536 (size + 1)
 
 -- each step leads to the place after its byte
-pub leads : (state : State) (ended : ℕ) (place : Place) (byte : ℕ) → IsAt state ended place → LeadsTo ended (step default_config state byte) (after place byte)
+pub leads : (state : State) (ended : ℕ) (place : LogPlace) (byte : ℕ) → IsAt state ended place → LeadsTo ended (step default_config state byte) (after place byte)
 leads st.StartRecord ended place byte h = rw (h.0, h.1) (record_leads byte)
 leads st.AfterCr ended place byte h = rw (h.0, h.1) (return_leads byte)
 leads st.StartField ended place byte h = rw h.1 (opening_leads ended (counted h.0) byte)

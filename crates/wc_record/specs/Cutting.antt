@@ -2,36 +2,36 @@
 -- has ended none after its first 65536 (the profile's own).
 use Rattle.wc_record.specs.declared.place.ByteState.TheVariants as byte_state
 use Rattle.std.specs.Prelude.{ℕ, ◌+◌, ◌==◌, ◌||◌, ◌&&◌, Bool, true, false, min, nat_le, if◌then◌else◌, ◌≡◌, ◌≢◌, ◌<◌, ◌≤◌, ◌-◌, List, [], ◌∷◌, ◌++◌, length, slice_index, take, drop, ◌^◌}
-use Rattle.wc_record.specs.declared.place.Place.{Place}
+use Rattle.wc_record.specs.declared.place.LogPlace.{LogPlace}
 use Rattle.wc_record.specs.declared.place.ByteState.{ByteState}
 
 -- before the first byte of a log
-abbrev pub log_start : Place
+abbrev pub log_start : LogPlace
 log_start = record { byte_state = byte_state.LogStart; ended = 0; size = 0 }
 
 -- before the first byte of a record
-abbrev pub record_start : Place
+abbrev pub record_start : LogPlace
 record_start = record { byte_state = byte_state.Opening; ended = 0; size = 0 }
 
 -- three fields of the current record have ended, so that it has more than three, and 65536 of its
 -- bytes were read
-abbrev pub is_cut : Place → Bool
+abbrev pub is_cut : LogPlace → Bool
 is_cut place = nat_le 3 place.ended && nat_le 65536 place.size
 
 -- after a byte outside of quotes that opens none: a comma ends a field, a line's end the record
-abbrev pub after_plain : ℕ → ℕ → ℕ → Place
+abbrev pub after_plain : ℕ → ℕ → ℕ → LogPlace
 after_plain ended size byte =
     if byte == 44 then record { byte_state = byte_state.Opening; ended = min 3 (ended + 1); size = size }
     else if (byte == 13) || (byte == 10) then record_start
     else record { byte_state = byte_state.Plain; ended = ended; size = size }
 
 -- after a byte where a quote opens quotes
-abbrev pub after_opening : ℕ → ℕ → ℕ → Place
+abbrev pub after_opening : ℕ → ℕ → ℕ → LogPlace
 after_opening ended size byte =
     if byte == 34 then record { byte_state = byte_state.Quoted; ended = ended; size = size } else after_plain ended size byte
 
 -- after one byte more, at each position
-abbrev pub after_at : ByteState → ℕ → ℕ → ℕ → Place
+abbrev pub after_at : ByteState → ℕ → ℕ → ℕ → LogPlace
 after_at byte_state.Opening ended size byte = after_opening ended size byte
 after_at byte_state.Plain ended size byte = after_plain ended size byte
 after_at byte_state.Quoted ended size byte =
@@ -50,21 +50,21 @@ is_outside byte_state.Plain = true
 is_outside other = false
 
 -- after one byte more
-abbrev pub after : Place → ℕ → Place
+abbrev pub after : LogPlace → ℕ → LogPlace
 after place byte = after_at place.byte_state place.ended (min 65536 (place.size + 1)) byte
 
 -- those of these bytes, from a place on
-unfoldable pub cut_from : Place → List ℕ → List ℕ
+unfoldable pub cut_from : LogPlace → List ℕ → List ℕ
 cut_from place [] = []
 cut_from place (byte ∷ rest) = if is_cut place then [] else byte ∷ cut_from (after place byte) rest
 
 -- n of these bytes, and then what is read from the new place on, is what is read of them and
 -- of any that follow
-abbrev pub Cuts : Place → List ℕ → ℕ → Place → Type 0
+abbrev pub Cuts : LogPlace → List ℕ → ℕ → LogPlace → Type 0
 Cuts old bytes count new = (following : List ℕ) → cut_from old (bytes ++ following) ≡ take count bytes ++ cut_from new following
 
 -- n bytes were passed, and the others are still to be
-abbrev pub Passes : Place → List ℕ → ℕ → Place → Type 0
+abbrev pub Passes : LogPlace → List ℕ → ℕ → LogPlace → Type 0
 Passes old bytes count new =
     (following : List ℕ) → cut_from old (bytes ++ following) ≡ take count bytes ++ cut_from new (drop count bytes ++ following)
 

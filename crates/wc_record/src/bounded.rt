@@ -5,7 +5,7 @@ ghost use Rattle.wc_model.specs.Run.Devices.{failures_after_read};
 ghost use Rattle.wc_record.specs.Cutting.{is_exhausted, cut_from, is_cut, log_start};
 ghost use Rattle.wc_record.specs.Reading.{borrowed, borrowed_bytes};
 
-use crate::place::Place;
+use crate::place::LogPlace;
 use memchr::memchr_iter;
 use std::io::{self, Read};
 use wc_model::{ByteIn, MOST_SPENT};
@@ -25,7 +25,7 @@ pub fn is_exhausted(start: u64, spent: u64) -> bool
 pub(crate) struct LimitedReader<'r, R> {
     pub(crate) reader: &'r mut R,
     pub(crate) start: u64,
-    place: Place,
+    place: LogPlace,
     given: ReadBytes,
 }
 
@@ -40,7 +40,7 @@ impl<'r, R: ByteIn> LimitedReader<'r, R> {
         LimitedReader {
             reader,
             start,
-            place: Place::new(),
+            place: LogPlace::new(),
             given: ReadBytes::new(),
         }
     }

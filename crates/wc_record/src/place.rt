@@ -26,7 +26,7 @@ pub(crate) enum ByteState {
 
 /// The place in the bytes of a log at which a reader is.
 #[derive(Clone, Copy, PartialEq, Eq)]
-pub(crate) struct Place {
+pub(crate) struct LogPlace {
     /// What the next byte may be.
     pub(crate) byte_state: ByteState,
     /// The number of fields of the current record that have ended, 3 if there are more.
@@ -37,10 +37,10 @@ pub(crate) struct Place {
 
 /// The place of these parts.
 #[inline(always)]
-fn place_of(byte_state: ByteState, ended: u8, size: u32) -> Place
+fn place_of(byte_state: ByteState, ended: u8, size: u32) -> LogPlace
     ensures { result ≡ record { byte_state = byte_state; ended = ended; size = size } }
 {
-    Place {
+    LogPlace {
         byte_state,
         ended,
         size,
@@ -49,7 +49,7 @@ fn place_of(byte_state: ByteState, ended: u8, size: u32) -> Place
 
 /// The place before the first byte of a record.
 #[inline(always)]
-fn at_record() -> Place
+fn at_record() -> LogPlace
     ensures { result ≡ record_start }
 {
     place_of(ByteState::Opening, 0, 0)
@@ -57,7 +57,7 @@ fn at_record() -> Place
 
 /// The place after a byte that opens no quotes, outside of them.
 #[inline(always)]
-fn following_plain(ended: u8, size: u32, byte: u8) -> Place
+fn following_plain(ended: u8, size: u32, byte: u8) -> LogPlace
     ensures { result ≡ after_plain ended size byte }
 {
     if byte == b',' {
@@ -71,7 +71,7 @@ fn following_plain(ended: u8, size: u32, byte: u8) -> Place
 
 /// The place after a byte that may open quotes.
 #[inline(always)]
-fn following_opening(ended: u8, size: u32, byte: u8) -> Place
+fn following_opening(ended: u8, size: u32, byte: u8) -> LogPlace
     ensures { result ≡ after_opening ended size byte }
 {
     if byte == b'"' {
@@ -94,9 +94,9 @@ fn unquoted_lines(bytes: &[u8]) -> usize
     }
 }
 
-impl Place {
+impl LogPlace {
     /// The place before the first byte of a log.
-    pub(crate) fn new() -> Place
+    pub(crate) fn new() -> LogPlace
         ensures { result ≡ log_start }
     {
         place_of(ByteState::LogStart, 0, 0)
@@ -118,7 +118,7 @@ impl Place {
 
     /// The place after this byte.
     #[inline(always)]
-    fn following(self, byte: u8) -> Place
+    fn following(self, byte: u8) -> LogPlace
         ensures { result ≡ after self byte }
     {
         let size = self.size.saturating_add(1).min(MOST_READ);

@@ -130,7 +130,7 @@ impl<'a, S: Store> LogScale<'a, S> {
     #[inline(always)]
     fn take_sample(&mut self, counts: i32)
         requires { IsDataInRange (Counts counts) }
-        ensures represents { (ms : ℕ) → TakesRow self.old self.new ms (Counts counts) }
+        ensures takes { (ms : ℕ) → TakesRow self.old self.new ms (Counts counts) }
         ensures machine { self.new.opened.machine ≡ self.old.opened.machine }
     {
         self.opened.sample(counts);
@@ -140,7 +140,7 @@ impl<'a, S: Store> LogScale<'a, S> {
     #[inline(always)]
     fn take_bytes(&mut self, answers: &mut Answers, bytes: &[u8]) -> Result<(), RunFault>
         requires empty { answers.old.bytes.items ≡ [] }
-        ensures represents { OnOk result ((ms : ℕ)
+        ensures takes { OnOk result ((ms : ℕ)
             → TakesRow self.old self.new ms (Bytes bytes.now)) }
         ensures lines { OnOk result
             ((ms : ℕ) → Gives self.old ms (Bytes bytes.now) answers.new.bytes.items None) }
@@ -156,7 +156,7 @@ impl<'a, S: Store> LogScale<'a, S> {
     /// Takes the inputs from now on.
     #[inline(always)]
     fn take_inputs(&mut self, inputs: u16)
-        ensures represents { (ms : ℕ) → TakesRow self.old self.new ms (Inputs inputs) }
+        ensures takes { (ms : ℕ) → TakesRow self.old self.new ms (Inputs inputs) }
         ensures machine { self.new.opened.machine ≡ self.old.opened.machine }
     {
         self.opened.inputs(inputs);
@@ -167,7 +167,7 @@ impl<'a, S: Store> LogScale<'a, S> {
     fn take_scan(&mut self, looks: bool, ms: u64) -> Result<Option<ScanSeen>, RunFault>
         requires early { ms < 2 ^ 40 }
         requires in_order { IsNotAfter self.old ms }
-        ensures represents { TakesRow self.old self.new ms Scan }
+        ensures takes { TakesRow self.old self.new ms Scan }
         ensures lines { IfOk result (λ scan. Gives self.old ms Scan [] scan) }
         ensures items { IfOk result (λ scan. GivesItems self.old ms Scan scan) }
         ensures looked { IfOk result (λ scan. IsLookedAt scan looks) }
@@ -192,7 +192,7 @@ impl<'a, S: Store> LogScale<'a, S> {
     fn look_at(&mut self, ms: u64) -> Result<Option<ScanSeen>, RunFault>
         requires early { ms < 2 ^ 40 }
         requires in_order { IsNotAfter self.old ms }
-        ensures represents { TakesRow self.old self.new ms Scan }
+        ensures takes { TakesRow self.old self.new ms Scan }
         ensures lines { IfOk result (λ scan. Gives self.old ms Scan [] scan) }
         ensures items { IfOk result (λ scan. GivesItems self.old ms Scan scan) }
         ensures looked { IfOk result (λ scan. IsLookedAt scan true) }
@@ -215,7 +215,7 @@ impl<'a, S: Store> LogScale<'a, S> {
     /// another kind clears no space for it.
     #[inline(always)]
     fn take_change(&mut self, number: u32) -> Result<(), RunFault>
-        ensures represents { OnOk result ((ms : ℕ) → TakesRow self.old self.new ms Change) }
+        ensures takes { OnOk result ((ms : ℕ) → TakesRow self.old self.new ms Change) }
         ensures runs { OnOk result ((ms : ℕ) → RunsRow self.old (row_at number ms Change)) }
         ensures place { IfErr result (IsFaultAt number) }
         ensures stops { IfErr result
@@ -233,7 +233,7 @@ impl<'a, S: Store> LogScale<'a, S> {
     #[cold]
     #[inline(never)]
     fn change_program(&mut self, number: u32) -> Result<(), RunFault>
-        ensures represents { OnOk result ((ms : ℕ) → TakesRow self.old self.new ms Change) }
+        ensures takes { OnOk result ((ms : ℕ) → TakesRow self.old self.new ms Change) }
         ensures runs { OnOk result ((ms : ℕ) → RunsRow self.old (row_at number ms Change)) }
         ensures place { IfErr result (IsFaultAt number) }
         ensures stops { IfErr result

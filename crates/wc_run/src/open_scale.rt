@@ -50,7 +50,7 @@ impl<'a, S: Store> OpenScale<'a, S> {
     #[inline(always)]
     pub fn sample(&mut self, counts: i32)
         requires in_range { IsSample counts }
-        ensures represents { Goes self.old self.new (with_sample counts) }
+        ensures goes { Goes self.old self.new (with_sample counts) }
         ensures machine { self.new.machine ≡ self.old.machine }
     {
         self.indicator.sample(counts);
@@ -61,7 +61,7 @@ impl<'a, S: Store> OpenScale<'a, S> {
     /// answers `WriteFault` and does nothing.
     #[inline(always)]
     pub fn feed<W: ByteOut>(&mut self, bytes: &[u8], answers: &mut W) -> Result<(), WriteFault>
-        ensures represents { OnOk result (Goes self.old self.new (with_bytes bytes.now)) }
+        ensures goes { OnOk result (Goes self.old self.new (with_bytes bytes.now)) }
         ensures answers { OnOk result
             (Answers self.old bytes.now (W.bytes_taken answers.old)
             (W.bytes_taken answers.new)) }
@@ -85,7 +85,7 @@ impl<'a, S: Store> OpenScale<'a, S> {
     /// Takes the digital inputs from now on; bit i is `%IX0.i`. It takes no memory.
     #[inline(always)]
     pub fn inputs(&mut self, inputs: u16)
-        ensures represents { Goes self.old self.new (with_inputs inputs) }
+        ensures goes { Goes self.old self.new (with_inputs inputs) }
         ensures machine { self.new.machine ≡ self.old.machine }
     {
         self.inputs = inputs;

@@ -1,6 +1,6 @@
--- What a `Field` holds.
+-- What a `WeightField` holds.
 use Rattle.std.specs.Prelude.{◌≡◌, ℕ, ◌≤◌, List, take, drop, replicate}
-use Rattle.wc_sma.specs.declared.weight.Field.TheInside.{Inside}
+use Rattle.wc_sma.specs.declared.weight.WeightField.TheInside.{Inside}
 
 -- its text is what is from its place on
 abbrev pub request_view : Inside → List ℕ

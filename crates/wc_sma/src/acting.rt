@@ -20,7 +20,7 @@ pub(crate) enum Reply {
 
 /// Sets zero, and says what the answer is to.
 fn set_zero(indicator: &mut Indicator) -> RequestOutcome
-    ensures represents { Adds (λ history. SetZero ∷ history) indicator.old indicator.new }
+    ensures adds { Adds (λ history. SetZero ∷ history) indicator.old indicator.new }
     ensures asked { Reports answers.asked_zero indicator.old (asked_view result) }
 {
     match indicator.set_zero() {
@@ -31,7 +31,7 @@ fn set_zero(indicator: &mut Indicator) -> RequestOutcome
 
 /// Takes a tare, and says what the answer is to.
 fn take_tare(indicator: &mut Indicator) -> RequestOutcome
-    ensures represents { Adds (λ history. SetTare ∷ history) indicator.old indicator.new }
+    ensures adds { Adds (λ history. SetTare ∷ history) indicator.old indicator.new }
     ensures asked { Reports answers.asked_tare indicator.old (asked_view result) }
 {
     match indicator.set_tare() {
@@ -42,7 +42,7 @@ fn take_tare(indicator: &mut Indicator) -> RequestOutcome
 
 /// Acts on a request, and gives the reply, which gives the indication after it.
 pub(crate) fn act(command: Command, indicator: &mut Indicator) -> Reply
-    ensures represents { Adds (answers.after_command (command_view command)) indicator.old
+    ensures adds { Adds (answers.after_command (command_view command)) indicator.old
         indicator.new }
     ensures answer { (p : PlateData) (history : History) → RepresentsHistory indicator.old p history
         → reply_bytes p (answers.after_command (command_view command) history) result

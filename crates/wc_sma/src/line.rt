@@ -35,7 +35,7 @@ fn serve<W: ByteOut>(
     indicator: &mut Indicator,
     writer: &mut W,
 ) -> Result<(), WriteFault>
-    ensures represents { Adds (answers.after_command (command_view command)) indicator.old
+    ensures adds { Adds (answers.after_command (command_view command)) indicator.old
         indicator.new }
     ensures whole { IfOk result
         (λ done. (p : PlateData) (history : History) → RepresentsHistory indicator.old p history

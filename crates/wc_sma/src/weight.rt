@@ -5,7 +5,7 @@ use std::marker::Model;
 
 /// Ten bytes that are filled from their end. What is not filled is spaces.
 #[derive(Drop)]
-struct Field {
+struct WeightField {
     bytes: [u8; 10],
     at: usize,
 }
@@ -23,7 +23,7 @@ fn digits_before(number: u32, decimals: u32) -> u32
     }
 }
 
-impl Model for Field {
+impl Model for WeightField {
     ghost use Rattle.std.specs.Prelude.{ℕ, List};
 
     ghost Value = { List ℕ };
@@ -35,12 +35,12 @@ impl Model for Field {
     ghost invariant = { IsFilled };
 }
 
-impl Field {
+impl WeightField {
     /// An empty field.
-    fn new() -> Field
+    fn new() -> WeightField
         ensures { result ≡ [] }
     {
-        Field {
+        WeightField {
             bytes: [b' '; 10],
             at: 10,
         }
@@ -124,7 +124,7 @@ pub(crate) fn weight_field(decimals: u32, weight: Option<i32>) -> [u8; 10]
 {
     match weight {
         Some(value) if value.unsigned_abs() < 10_000_000 => {
-            let mut field = Field::new();
+            let mut field = WeightField::new();
             field.put_value(decimals, value);
             field.bytes()
         }

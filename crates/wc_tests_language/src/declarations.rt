@@ -1,7 +1,7 @@
 //! Declarations of texts: names, types, frames and places.
 use crate::texts::tables_of;
 use std::alloc::Global;
-use wc_declare::{DeclaredType, Entity, Formal, Frame, Tables, VariablePlace};
+use wc_declare::{DeclaredType, Entity, FormalSlot, Frame, Tables, VariablePlace};
 use wc_model::{Direction, Fault, Kind, Operand, Path, Place, SlotKind, StandardBlock, Word};
 
 /// A block of ten places, and a program with a timer, two instances of the block and plain variables.
@@ -60,11 +60,11 @@ fn have_sizes(tables: &Tables<'_>) -> bool {
 /// The inputs and outputs of a timer and of the block have their kinds and places, and neither is the other.
 fn have_formals(tables: &Tables<'_>) -> bool {
     let timer = DeclaredType::Standard(StandardBlock::Ton);
-    let pt = Formal {
+    let pt = FormalSlot {
         kind: Kind::Time,
         place: 1,
     };
-    let y = Formal {
+    let y = FormalSlot {
         kind: Kind::Dint,
         place: 1,
     };

@@ -8,7 +8,7 @@ use Rattle.wc_model.specs.declared.operator.Condition.{Condition}
 use Rattle.wc_names.specs.{number_within, numbered_formal, numbered_type, same_name_laws}
 use Rattle.wc_names.specs.declared.declared_type.DeclaredType.{DeclaredType}
 use Rattle.wc_names.specs.declared.declared_type.DeclaredType.TheVariants as numbered
-use Rattle.wc_names.specs.declared.formal.Formal.{Formal}
+use Rattle.wc_names.specs.declared.formal.FormalSlot.{FormalSlot}
 use Rattle.wc_names.specs.declared.kept.Tables.{Tables}
 use Rattle.wc_verify.specs.Seeing.{HoldsNames, is_numbered_instance, IsScope, Finds}
 
@@ -18,12 +18,12 @@ pub record IsFormal (o : Option Member) (kind : Kind) : Type 0 where
   pub is : o ≡ Some member
   pub kind_is : elementary_kind member.type ≡ Some kind
 
-kind_parts : (k : Option Kind) (w : Option ℕ) (formal : Formal) → Some formal ≡ option_and_then (λ kind. option_map (λ n. record { kind = kind; place = n }) w) k → k ≡ Some formal.kind
+kind_parts : (k : Option Kind) (w : Option ℕ) (formal : FormalSlot) → Some formal ≡ option_and_then (λ kind. option_map (λ n. record { kind = kind; place = n }) w) k → k ≡ Some formal.kind
 kind_parts None w formal h = cc
 kind_parts (Some kind) None formal h = cc
-kind_parts (Some kind) (Some n) formal h = ap (λ o. option_map (λ (i : Formal). i.kind) o) (sym h)
+kind_parts (Some kind) (Some n) formal h = ap (λ o. option_map (λ (i : FormalSlot). i.kind) o) (sym h)
 
-pub formal_parts : (scope : Scope) (type : VariableType) (o : Option Member) (formal : Formal) → Some formal ≡ option_and_then (numbered_formal scope.before type) o → IsFormal o formal.kind
+pub formal_parts : (scope : Scope) (type : VariableType) (o : Option Member) (formal : FormalSlot) → Some formal ≡ option_and_then (numbered_formal scope.before type) o → IsFormal o formal.kind
 formal_parts scope type None formal h = absurd (cc)
 formal_parts scope type (Some m) formal h = record { member = m; is = refl; kind_is = kind_parts (elementary_kind m.type) (number_within scope.before type (m.name ∷ [])) formal h }
 

@@ -9,7 +9,7 @@ use crate::refusals::{
 };
 use crate::seen::{OperandFacts, see};
 use std::alloc::Global;
-use wc_built_in::{is_bit_literal, is_kind};
+use wc_built_in::is_bit_literal;
 use wc_model::{Argument, Condition, Direction, Fault, Kind, Operand};
 use wc_names::{DeclaredType, Names, Tables};
 
@@ -19,7 +19,7 @@ fn suits_input(kind: Kind, operand: &Operand<'_>, seen: OperandFacts) -> bool
         → elementary_kind m.type ≡ Some kind
         → suits_input scope (Some m) (term_view operand.now) ≡ result }
 {
-    is_of_kind(kind, seen.kind) || is_kind(Kind::Bool, kind) && is_bit_literal(operand)
+    is_of_kind(kind, seen.kind) || kind == Kind::Bool && is_bit_literal(operand)
 }
 
 /// What is passed to an input of a kind, by 401, 405 and 402, or from an output of one, by 401, 404 and 402.

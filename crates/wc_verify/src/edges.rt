@@ -1,7 +1,6 @@
 ghost use Rattle.std.specs.Prelude.{◌≡◌};
 ghost use Rattle.wc_verify.specs.Bodies.{joined_edges, kind_of_way, with_way};
 
-use wc_built_in::same_result;
 use wc_model::Kind;
 
 /// What the incoming paths of a line agree on.
@@ -31,7 +30,7 @@ pub(crate) fn with_way(kind: Option<Kind>, way: Way) -> Way
 {
     match way {
         Way::Unseen => Way::Agreed(kind),
-        Way::Agreed(other) if same_result(kind, other) => Way::Agreed(kind),
+        Way::Agreed(other) if kind == other => Way::Agreed(kind),
         _ => Way::Different,
     }
 }

@@ -3,7 +3,7 @@ ghost use Rattle.wc_model.specs.Definitions.{condition_checks, divisor_checks, i
 ghost use Rattle.wc_verify.specs.Seeing.{Finds, first_at, IsSeen};
 
 use crate::seen::OperandFacts;
-use wc_built_in::{divides, is_bit_literal, is_bool, is_divisor, is_kind, takes, takes_truth};
+use wc_built_in::{divides, is_bit_literal, is_bool, is_divisor, takes, takes_truth};
 use wc_model::{Condition, Fault, Kind, Operand, Operator};
 
 /// The number of a rule that does not hold.
@@ -106,7 +106,7 @@ pub(crate) fn validate_divisor(operator: Operator, operand: &Operand<'_>) -> Opt
 pub(crate) fn is_of_kind(kind: Kind, seen: Option<Kind>) -> bool
     ensures { result ≡ is_of (is_kind kind) seen }
 {
-    seen.is_some_and(|seen| is_kind(kind, seen))
+    seen.is_some_and(|seen| seen == kind)
 }
 
 /// Whether an operand suits the result before its operator.
@@ -122,7 +122,7 @@ pub(crate) fn suits_result(
     match kind {
         Some(kind) => {
             is_of_kind(kind, seen.kind)
-                || is_kind(Kind::Bool, kind) && takes_truth(operator) && is_bit_literal(operand)
+                || kind == Kind::Bool && takes_truth(operator) && is_bit_literal(operand)
         }
         None => false,
     }

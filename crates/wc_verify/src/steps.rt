@@ -7,7 +7,7 @@ use crate::refusals::{
     validate_result, validate_truth, validate_writing,
 };
 use crate::seen::OperandFacts;
-use wc_built_in::{divides, is_bool, same_result};
+use wc_built_in::{divides, is_bool};
 use wc_model::{Kind, Operand, Operator, StoreKind};
 
 /// Whether LD or LDN takes an operand of the kind.
@@ -117,8 +117,5 @@ pub(crate) fn validate_opening(
 pub(crate) fn validate_closing(outer: Option<Kind>, inner: Option<Kind>) -> Option<u16>
     ensures { Finds (λ line. closing_checks line outer inner) result }
 {
-    first_of(
-        unless(inner.is_some(), 403),
-        unless(same_result(outer, inner), 402),
-    )
+    first_of(unless(inner.is_some(), 403), unless(outer == inner, 402))
 }

@@ -5,7 +5,7 @@ use Rattle.wc_names.specs.Numbered.{numbered_type}
 use Rattle.wc_names.specs.declared.declared_type.DeclaredType.TheVariants as numbered
 use Rattle.wc_laws_language.proofs.Carrying.{is_field}
 use Rattle.wc_view_changes.specs.{pass_text, path_text, unit_of_type, IsSide, kept_between, line_between, numbered_side, side_after, side_found, side_lead, unit_numbered}
-use Rattle.wc_view_changes.specs.Shown.{Shape, Plain, Instance, Shown, inside, names_of, paths_at, paths_of}
+use Rattle.wc_view_changes.specs.Shown.{FrameEntry, Plain, Instance, Shown, inside, names_of, paths_at, paths_of}
 use Rattle.wc_view_changes.specs.declared.describing.Pass.{Pass}
 use Rattle.wc_view_changes.proofs.Leads.{lead_is, never_field, not_field}
 use Rattle.wc_text_variables.proofs.BlockUnits.{block_unit}
@@ -61,7 +61,7 @@ step_found (Some old) first [] last = refl
 step_found (Some old) first (i ∷ instances) last = refl
 
 -- places after one name more
-paths_after : (shape : Shape) (name : Name) (names : List Name) (p : List Name → Bool) → list_all p (paths_at shape (name ∷ names)) ≡ list_all (λ path. p (name ∷ path)) (paths_at shape names)
+paths_after : (shape : FrameEntry) (name : Name) (names : List Name) (p : List Name → Bool) → list_all p (paths_at shape (name ∷ names)) ≡ list_all (λ path. p (name ∷ path)) (paths_at shape names)
 paths_after (Plain kind content) name names p = refl
 paths_after (Instance block) name names p =
     list_all-map p (λ (f : Name × Content). (name ∷ names) ++ f.0 ∷ []) (standard_fields block)

@@ -15,7 +15,7 @@ use Rattle.wc_model.specs.declared.source.Source.{Source}
 use Rattle.wc_model.specs.declared.value.Value.TheVariants.{Bool as Truth, Dint, Time}
 use Rattle.wc_view_changes.specs.declared.describing.Pass.{Pass}
 use Rattle.wc_view_changes.specs.declared.describing.Pass.TheVariants as pass
-use Rattle.wc_view_changes.specs.Shown.{Shape, Plain, Instance, Shown, names_of, paths_of, shown_of}
+use Rattle.wc_view_changes.specs.Shown.{FrameEntry, Plain, Instance, Shown, names_of, paths_of, shown_of}
 
 -- the types as a text spells them
 abbrev pub kind_text : Kind → List ℕ
@@ -41,12 +41,12 @@ content_text (Held (Time time)) = codes "T#" ++ (signed_decimal time ++ codes "m
 content_text content = []
 
 -- the type of a variable, and its first value if it has one of its own
-abbrev pub shape_text : Shape → List ℕ
+abbrev pub shape_text : FrameEntry → List ℕ
 shape_text (Plain kind content) = kind_text kind ++ (32 ∷ content_text content)
 shape_text (Instance block) = block_text block
 
 -- its type alone
-abbrev pub shape_type : Shape → List ℕ
+abbrev pub shape_type : FrameEntry → List ℕ
 shape_type (Plain kind content) = kind_text kind
 shape_type (Instance block) = block_text block
 
@@ -101,13 +101,13 @@ abbrev pub path_text : Shown → List ℕ
 path_text s = flat_map (λ instance. instance ++ 46 ∷ []) s.instances ++ s.name
 
 -- the line of a variable of the new program
-abbrev pub line_text : Bool → List ℕ → Shape → Option (List ℕ) → List ℕ
+abbrev pub line_text : Bool → List ℕ → FrameEntry → Option (List ℕ) → List ℕ
 line_text true path shape old_type = codes "kept " ++ (path ++ 10 ∷ [])
 line_text false path shape old_type = codes "first " ++ (path ++ (32 ∷ (shape_text shape ++ (32 ∷ (reason_text old_type ++ 10 ∷ [])))))
 
 -- The line of a variable of the old program that is lost: it has none if something with a line is under its names in the
 -- new program, since that line says `kept` or `was`. (The profile's own.)
-abbrev pub lost_text : Bool → List ℕ → Shape → List ℕ
+abbrev pub lost_text : Bool → List ℕ → FrameEntry → List ℕ
 lost_text true path shape = []
 lost_text false path shape = codes "lost " ++ (path ++ (32 ∷ (shape_type shape ++ 10 ∷ [])))
 
@@ -129,12 +129,12 @@ abbrev pub note_text : Bool → List ℕ → Content → Content → List ℕ
 note_text true path first before = codes "{\"severity\":\"note\",\"variable\":\"" ++ (path ++ (codes "\",\"first\":\"" ++ (content_text first ++ (codes "\",\"before\":\"" ++ (content_text before ++ codes "\"}\n")))))
 note_text false path first before = codes "note: a change keeps the value of `" ++ (path ++ (codes "`; its first value, " ++ (content_text first ++ (codes ", is not taken (it was " ++ (content_text before ++ codes ")\n")))))
 
-abbrev pub note_on : Bool → Bool → List ℕ → Shape → Option Content → List ℕ
+abbrev pub note_on : Bool → Bool → List ℕ → FrameEntry → Option Content → List ℕ
 note_on as_objects true path (Plain kind first) (Some before) = elim (same_content first before) [ true ↦ [] | false ↦ note_text as_objects path first before ]
 note_on as_objects kept path shape before = []
 
 -- what is reported about a variable, by whose variables are listed
-abbrev pub pass_text : Pass → Bool → List ℕ → Shape → Option Found → List ℕ
+abbrev pub pass_text : Pass → Bool → List ℕ → FrameEntry → Option Found → List ℕ
 pass_text pass.New kept path shape found = line_text kept path shape (option_map (λ f. f.type) found)
 pass_text pass.Old kept path shape found = lost_text (has_line found) path shape
 pass_text (pass.Notes as_objects) kept path shape found = note_on as_objects kept path shape (option_and_then (λ f. f.first) found)

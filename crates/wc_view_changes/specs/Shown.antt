@@ -2,7 +2,7 @@
 -- them. (No rule of the language.)
 use Rattle.wc_model.specs.Language.Store as store
 use Rattle.wc_model.specs.declared.fault.Fault.TheVariants as fault
-use Rattle.wc_view_changes.specs.declared.shape.Shape.TheVariants as shape
+use Rattle.wc_view_changes.specs.declared.shape.FrameEntry.TheVariants as shape
 use Rattle.wc_names.specs.declared.declared_type.DeclaredType.TheVariants as numbered
 use Rattle.std.specs.Prelude.{ℕ, true, false, List, [], ◌∷◌, ◌++◌, map, reverse, Option, Some, None, ◌≡◌, Bool, Result, OnOk, IsOkUnless, flat_map}
 use Rattle.std.proofs.Common.{Vec, Global}
@@ -15,18 +15,18 @@ use Rattle.wc_model.specs.declared.source.Source.{Source}
 use Rattle.wc_model.specs.declared.source.Unit.{Unit as CodeUnit}
 use Rattle.wc_model.specs.declared.fault.Fault.{Fault}
 use Rattle.wc_names.specs.declared.declared_type.DeclaredType.{DeclaredType}
-use Rattle.wc_view_changes.specs.declared.shape.Shape.{Shape as CodeShape}
+use Rattle.wc_view_changes.specs.declared.shape.FrameEntry.{FrameEntry as CodeShape}
 
 -- what is in a frame under one name: a plain variable of a kind with what it holds at first, or a standard block's instance
-pub data Shape : Type 0 where
-  Plain : (kind : Kind) (content : Content) → Shape
-  Instance : (block : StandardBlock) → Shape
+pub data FrameEntry : Type 0 where
+  Plain : (kind : Kind) (content : Content) → FrameEntry
+  Instance : (block : StandardBlock) → FrameEntry
 
 -- such a variable, with the instances through which the program reaches it, the outermost first
 pub record Shown : Type 0 where
   pub instances : List (List ℕ)
   pub name : List ℕ
-  pub shape : Shape
+  pub shape : FrameEntry
 
 -- a name as it is declared, and the first value that is written after it
 pub record Declared : Type 0 where
@@ -76,7 +76,7 @@ shown_of source = elim (reverse source.units.items) [ program ∷ before ↦ sho
 abbrev pub names_of : Shown → List Name
 names_of s = map name_of s.instances ++ name_of s.name ∷ []
 
-abbrev pub paths_at : Shape → List Name → List (List Name)
+abbrev pub paths_at : FrameEntry → List Name → List (List Name)
 paths_at (Plain kind content) names = names ∷ []
 paths_at (Instance block) names = map (λ field. names ++ field.0 ∷ []) (standard_fields block)
 
@@ -84,12 +84,12 @@ abbrev pub paths_of : Shown → List (List Name)
 paths_of s = paths_at s.shape (names_of s)
 
 -- a form
-abbrev pub shape_view : CodeShape → Shape
+abbrev pub shape_view : CodeShape → FrameEntry
 shape_view (shape.Plain kind value) = Plain kind (store.Plain value)
 shape_view (shape.Instance block) = Instance block
 
 -- a variable of this type has this form
-abbrev pub has_shape : Option DeclaredType → Shape → Bool
+abbrev pub has_shape : Option DeclaredType → FrameEntry → Bool
 has_shape (Some (numbered.Elementary k)) (Plain kind content) = is_kind k kind
 has_shape (Some (numbered.Standard b)) (Instance block) = same_block b block
 has_shape type shape = false

@@ -8,7 +8,8 @@ ghost use Rattle.wc_view_changes.specs.Sides.{IsAt, IsSide, lines_between, numbe
 
 use crate::lines::{put_first, put_kept, put_lost, put_note};
 use crate::shape::{
-    Shape, first_value, is_kept, is_line, literal_of, other_literal, other_type, type_text, unit_of,
+    FrameEntry, first_value, is_kept, is_line, literal_of, other_literal, other_type, type_text,
+    unit_of,
 };
 use wc_model::{Decl, Fault, Value, put_bytes};
 use wc_names::DeclaredType;
@@ -59,7 +60,7 @@ fn describe_first(
     texts: Texts<'_, '_, '_, '_>,
     as_objects: bool,
     path: (&[u8], &[u8]),
-    shape: Shape,
+    shape: FrameEntry,
     there: Counterpart,
 ) -> Result<(), Fault>
     ensures note { OnOk result ((side : Option Scope)
@@ -74,7 +75,7 @@ fn describe_first(
     if !is_kept(shape, there.declared) {
         return Ok(());
     }
-    let Shape::Plain(kind, value) = shape else {
+    let FrameEntry::Plain(kind, value) = shape else {
         return Ok(());
     };
     let before = first_value(kind, other_literal(texts.other, there.unit, path.1));
@@ -87,7 +88,7 @@ fn describe_shape(
     out: &mut Vec<u8>,
     texts: Texts<'_, '_, '_, '_>,
     path: (&[u8], &[u8]),
-    shape: Shape,
+    shape: FrameEntry,
     there: Counterpart,
 ) -> Result<(), Fault>
     ensures line { OnOk result ((side : Option Scope)
@@ -142,11 +143,11 @@ fn describe_variable(
     };
     match located.declared {
         DeclaredType::Elementary(kind) => {
-            let shape = Shape::Plain(kind, first_value(kind, literal));
+            let shape = FrameEntry::Plain(kind, first_value(kind, literal));
             describe_shape(out, texts, (names.as_slice(), name), shape, there)
         }
         DeclaredType::Standard(block) => {
-            let shape = Shape::Instance(block);
+            let shape = FrameEntry::Instance(block);
             describe_shape(out, texts, (names.as_slice(), name), shape, there)
         }
         DeclaredType::Block(block) => {

@@ -9,7 +9,7 @@ ghost use Rattle.wc_model.specs.declared.value.Value.{Value};
 ghost use Rattle.wc_view_changes.specs.Shown as shown;
 ghost use Rattle.wc_view_changes.specs.Shown.{Puts, shape_view};
 
-use crate::shape::{Shape, block_text, kind_text, shape_type};
+use crate::shape::{FrameEntry, block_text, kind_text, shape_type};
 use wc_model::{Fault, Kind, Value, put_bytes};
 use wc_report::put_signed;
 
@@ -54,12 +54,12 @@ pub fn put_value(out: &mut Vec<u8>, value: Value) -> Result<(), Fault>
 }
 
 /// Puts a type, and the first value of what has one of its own.
-fn put_shape(out: &mut Vec<u8>, shape: Shape) -> Result<(), Fault>
+fn put_shape(out: &mut Vec<u8>, shape: FrameEntry) -> Result<(), Fault>
     ensures { Puts out.old out.new result (texts.shape_text (shape_view shape)) }
 {
     match shape {
-        Shape::Instance(block) => put_bytes(out, block_text(block)),
-        Shape::Plain(kind, value) => {
+        FrameEntry::Instance(block) => put_bytes(out, block_text(block)),
+        FrameEntry::Plain(kind, value) => {
             put_bytes(out, kind_text(kind))?;
             put_bytes(out, b" ")?;
             put_value(out, value)
@@ -79,7 +79,7 @@ fn put_names(out: &mut Vec<u8>, word: &[u8], path: (&[u8], &[u8])) -> Result<(),
 
 /// Puts the line of a variable that keeps its value.
 pub(crate) fn put_kept(out: &mut Vec<u8>, path: (&[u8], &[u8])) -> Result<(), Fault>
-    ensures line { (shape : shown.Shape) (old : Option (List ℕ)) → OnOk result
+    ensures line { (shape : shown.FrameEntry) (old : Option (List ℕ)) → OnOk result
         (out.new.items ≡ out.old.items
         ++ line_text true (path.entry.0.now ++ path.entry.1.now) shape old) }
     ensures memory { IsOkUnless result Fault.Memory }
@@ -92,7 +92,7 @@ pub(crate) fn put_kept(out: &mut Vec<u8>, path: (&[u8], &[u8])) -> Result<(), Fa
 pub(crate) fn put_first(
     out: &mut Vec<u8>,
     path: (&[u8], &[u8]),
-    shape: Shape,
+    shape: FrameEntry,
     old_type: Option<&[u8]>,
 ) -> Result<(), Fault>
     ensures { Puts out.old out.new result
@@ -111,7 +111,11 @@ pub(crate) fn put_first(
 }
 
 /// Puts the line of a variable of the old program that is lost.
-pub(crate) fn put_lost(out: &mut Vec<u8>, path: (&[u8], &[u8]), shape: Shape) -> Result<(), Fault>
+pub(crate) fn put_lost(
+    out: &mut Vec<u8>,
+    path: (&[u8], &[u8]),
+    shape: FrameEntry,
+) -> Result<(), Fault>
     ensures { Puts out.old out.new result
         (lost_text false (path.entry.0.now ++ path.entry.1.now) (shape_view shape)) }
 {

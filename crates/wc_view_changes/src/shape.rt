@@ -14,7 +14,7 @@ use wc_verify::Checked;
 
 /// What is in a frame under one name.
 #[derive(Clone, Copy)]
-pub(crate) enum Shape {
+pub(crate) enum FrameEntry {
     /// A variable of an elementary type, with its first value.
     Plain(Kind, Value),
     /// An instance of a standard function block.
@@ -22,15 +22,15 @@ pub(crate) enum Shape {
 }
 
 /// Whether what had this type in the old text keeps its value in this form.
-pub(crate) fn is_kept(shape: Shape, was: Option<DeclaredType>) -> bool
+pub(crate) fn is_kept(shape: FrameEntry, was: Option<DeclaredType>) -> bool
     ensures { result ≡ has_shape was (shape_view shape) }
 {
     let Some(declared) = was else {
         return false;
     };
     match shape {
-        Shape::Plain(kind, _) => declared == DeclaredType::Elementary(kind),
-        Shape::Instance(block) => declared == DeclaredType::Standard(block),
+        FrameEntry::Plain(kind, _) => declared == DeclaredType::Elementary(kind),
+        FrameEntry::Instance(block) => declared == DeclaredType::Standard(block),
     }
 }
 
@@ -76,12 +76,12 @@ pub(crate) fn block_text(block: StandardBlock) -> &'static [u8]
 }
 
 /// The type of what has this form, as a text spells it.
-pub(crate) fn shape_type(shape: Shape) -> &'static [u8]
+pub(crate) fn shape_type(shape: FrameEntry) -> &'static [u8]
     ensures { result.now ≡ texts.shape_type (shape_view shape) }
 {
     match shape {
-        Shape::Plain(kind, _) => kind_text(kind),
-        Shape::Instance(block) => block_text(block),
+        FrameEntry::Plain(kind, _) => kind_text(kind),
+        FrameEntry::Instance(block) => block_text(block),
     }
 }
 

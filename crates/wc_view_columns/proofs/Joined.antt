@@ -3,7 +3,7 @@ use Rattle.wc_model.proofs.Common.{◌≡◌, ℕ, ◌<◌, ◌≤◌, ◌⊎◌
 use Rattle.wc_view_columns.specs.{IsStateOf, span_of, AreFrom, Row, column_count, column_number, left_by, AreColumns, IsStart}
 use Rattle.wc_view_columns.specs.declared.line.TimeLine.{TimeLine}
 use Rattle.wc_view_columns.specs.declared.state.State.{State}
-use Rattle.wc_view_columns.specs.declared.span.Span.{Span}
+use Rattle.wc_view_columns.specs.declared.span.NumberSpan.{NumberSpan}
 use Rattle.wc_view_columns.proofs.Rows.{AreEach, still_narrow}
 
 -- the same columns
@@ -42,7 +42,7 @@ max_assoc : (a b c : ℤ) → int_max (int_max a b) c ≡ int_max a (int_max b c
 max_assoc a b c = omega (arith, ints, int_max_is a b, int_max_is (int_max a b) c, int_max_is b c, int_max_is a (int_max b c))
 
 -- of both together
-pub both_spans : (earlier later : List ℤ) (a b c : Span) → Some a ≡ span_of earlier → Some b ≡ span_of later
+pub both_spans : (earlier later : List ℤ) (a b c : NumberSpan) → Some a ≡ span_of earlier → Some b ≡ span_of later
     → c.least ≡ int_min a.least b.least → c.greatest ≡ int_max a.greatest b.greatest → c.last ≡ b.last → Some c ≡ span_of (earlier ++ later)
 both_spans [] later a b c ea eb least greatest last = absurd (cc)
 both_spans (x ∷ xs) [] a b c ea eb least greatest last = absurd (cc)

@@ -3,7 +3,7 @@ use Rattle.wc_model.proofs.Common.{◌≡◌, ℕ, ◌-◌, ◌||◌, Bool, ℤ,
 use Rattle.wc_view_columns.proofs.Totals.{last_or-append}
 use Rattle.wc_view_columns.specs.Held.{AreBitsOf, Held, IsStateOf, span_of}
 use Rattle.wc_view_columns.specs.declared.bits.Bits.{Bits}
-use Rattle.wc_view_columns.specs.declared.span.Span.{Span}
+use Rattle.wc_view_columns.specs.declared.span.NumberSpan.{NumberSpan}
 use Rattle.wc_view_columns.specs.declared.state.State.{State}
 
 -- a fold, if a second step does nothing
@@ -28,7 +28,7 @@ any_again p xs ys x b is =
     or_twice : (b c : Bool) → (b || (b || c)) ≡ (b || c)
     or_twice b c = grind arith
 
-spans_again : (f : Held → Option ℤ) (xs ys : List Held) (x : Held) (s : Option Span) → s ≡ span_of (filter_map f (xs ++ x ∷ x ∷ ys))
+spans_again : (f : Held → Option ℤ) (xs ys : List Held) (x : Held) (s : Option NumberSpan) → s ≡ span_of (filter_map f (xs ++ x ∷ x ∷ ys))
     → s ≡ span_of (filter_map f (xs ++ x ∷ ys))
 spans_again f xs ys x s is =
     is ∙ ap span_of (filter_map-append f xs (x ∷ x ∷ ys)) ∙ go (f x) ∙ ap span_of (sym (filter_map-append f xs (x ∷ ys)))
@@ -37,7 +37,7 @@ spans_again f xs ys x s is =
     go None = refl
     go (Some n) = span_again (filter_map f xs) (filter_map f ys) n
 
-words_again : (f : Held → ℤ) (xs ys : List Held) (x : Held) (s : Option Span) → s ≡ span_of (map f (xs ++ x ∷ x ∷ ys)) → s ≡ span_of (map f (xs ++ x ∷ ys))
+words_again : (f : Held → ℤ) (xs ys : List Held) (x : Held) (s : Option NumberSpan) → s ≡ span_of (map f (xs ++ x ∷ x ∷ ys)) → s ≡ span_of (map f (xs ++ x ∷ ys))
 words_again f xs ys x s is =
     is ∙ ap span_of (map-append f xs (x ∷ x ∷ ys)) ∙ span_again (map f xs) (map f ys) (f x) ∙ ap span_of (sym (map-append f xs (x ∷ ys)))
 

@@ -5,7 +5,7 @@ use Rattle.std.specs.Int.Bits.{bit_or, bit_xor}
 use Rattle.std.specs.Prelude.{max}
 use Rattle.wc_view_columns.specs.Held.{AreBitsOf, Held, span_of}
 use Rattle.wc_view_columns.specs.declared.bits.Bits.{Bits}
-use Rattle.wc_view_columns.specs.declared.span.Span.{Span}
+use Rattle.wc_view_columns.specs.declared.span.NumberSpan.{NumberSpan}
 
 -- the greatest of numbers and of later ones
 greatest_on : (a : ℕ) (numbers : List ℕ) → fold max a numbers ≡ max a (fold max 0 numbers)
@@ -64,10 +64,10 @@ bits_on f held others c are = subst (λ values. AreBitsOf values c) (sym (map-ap
 pub flags_on : (f : Held → Bool) (held others : List Held) (a b c : Bool) → c ≡ (a || b) → a ≡ list_any f held → b ≡ list_any f others → c ≡ list_any f (held ++ others)
 flags_on f held others a b c e first second = e ∙ (λ i. first i || second i) ∙ sym (list_any-append f held others)
 
-pub spans_on : (f : Held → Option ℤ) (held others : List Held) (c : Option Span) → c ≡ span_of (filter_map f held ++ filter_map f others) → c ≡ span_of (filter_map f (held ++ others))
+pub spans_on : (f : Held → Option ℤ) (held others : List Held) (c : Option NumberSpan) → c ≡ span_of (filter_map f held ++ filter_map f others) → c ≡ span_of (filter_map f (held ++ others))
 spans_on f held others c e = e ∙ ap span_of (sym (filter_map-append f held others))
 
-pub words_on : (f : Held → ℤ) (held others : List Held) (c : Option Span) → c ≡ span_of (map f held ++ map f others) → c ≡ span_of (map f (held ++ others))
+pub words_on : (f : Held → ℤ) (held others : List Held) (c : Option NumberSpan) → c ≡ span_of (map f held ++ map f others) → c ≡ span_of (map f (held ++ others))
 words_on f held others c e = e ∙ ap span_of (sym (map-append f held others))
 
 -- a bit above all that a number has

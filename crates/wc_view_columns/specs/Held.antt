@@ -5,12 +5,12 @@ use Rattle.std.specs.Int.{int_max, int_min, bit_at}
 use Rattle.std.specs.List.{fold, filter_map, last_or, list_any}
 use Rattle.wc_model.specs.Definitions.{PlateData, History}
 use Rattle.wc_model.specs.declared.image.Outputs.{Outputs}
-use Rattle.wc_view_columns.specs.declared.span.Span.{Span}
+use Rattle.wc_view_columns.specs.declared.span.NumberSpan.{NumberSpan}
 use Rattle.wc_view_columns.specs.declared.bits.Bits.{Bits}
 use Rattle.wc_view_columns.specs.declared.state.State.{State}
 
 -- those of some numbers, if there is one
-abbrev pub span_of : List ℤ → Option Span
+abbrev pub span_of : List ℤ → Option NumberSpan
 span_of [] = None
 span_of (number ∷ numbers) =
     Some (record { least = fold int_min number numbers; greatest = fold int_max number numbers; last = fold (λ _ next. next) number numbers })
@@ -58,5 +58,5 @@ pub record IsStateOf (held : List Held) (state : State) : Type 0 where
   pub invalid : state.invalid ≡ list_any (λ h. h.invalid) held
   pub inputs : AreBitsOf (map (λ h. h.inputs) held) state.inputs
   pub outputs : AreBitsOf (map (λ h. h.outputs.bits) held) state.outputs
-  pub words : (other : Span) (i : ℕ) → i < 4 → Some (get_or state.words i other) ≡ span_of (map (λ h. get_or h.outputs.words i (pos 0)) held)
+  pub words : (other : NumberSpan) (i : ℕ) → i < 4 → Some (get_or state.words i other) ≡ span_of (map (λ h. get_or h.outputs.words i (pos 0)) held)
   pub variables : (i : ℕ) → i < 4 → get_or state.variables i None ≡ span_of (filter_map (λ h. get_or h.variables i None) held)

@@ -14,5 +14,5 @@ pub use bits::{Bits, Level};
 pub use events::{Events, Request, Tracker};
 pub use lanes::{Lane, lanes_of, whole};
 pub use line::{COLUMNS, Column, TimeLine};
-pub use span::{Span, join};
+pub use span::{NumberSpan, join};
 pub use state::State;

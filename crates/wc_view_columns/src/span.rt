@@ -4,20 +4,20 @@ ghost use Rattle.wc_view_columns.specs.Held.{span_of};
 
 /// The least, the greatest and the last of some numbers.
 #[derive(Clone, Copy, PartialEq, Eq)]
-pub struct Span {
+pub struct NumberSpan {
     pub least: i64,
     pub greatest: i64,
     pub last: i64,
 }
 
-impl Span {
+impl NumberSpan {
     /// The span of one number.
-    pub(crate) fn at(number: i64) -> Span
+    pub(crate) fn at(number: i64) -> NumberSpan
         ensures least { result.least ≡ number }
         ensures greatest { result.greatest ≡ number }
         ensures last { result.last ≡ number }
     {
-        Span {
+        NumberSpan {
             least: number,
             greatest: number,
             last: number,
@@ -25,19 +25,19 @@ impl Span {
     }
 
     /// The span of one number or none.
-    pub(crate) fn of(number: Option<i64>) -> Option<Span>
+    pub(crate) fn of(number: Option<i64>) -> Option<NumberSpan>
         ensures { result ≡ span_of (option_to_list number) }
     {
-        Some(Span::at(number?))
+        Some(NumberSpan::at(number?))
     }
 
     /// The span of these numbers and then others.
-    pub(crate) fn merge(self, later: Span) -> Span
+    pub(crate) fn merge(self, later: NumberSpan) -> NumberSpan
         ensures least { result.least ≡ int_min self.least later.least }
         ensures greatest { result.greatest ≡ int_max self.greatest later.greatest }
         ensures last { result.last ≡ later.last }
     {
-        Span {
+        NumberSpan {
             least: self.least.min(later.least),
             greatest: self.greatest.max(later.greatest),
             last: later.last,
@@ -53,7 +53,7 @@ impl Span {
 }
 
 /// The span of some numbers and then others, either of which may be empty.
-pub fn join(earlier: Option<Span>, later: Option<Span>) -> Option<Span>
+pub fn join(earlier: Option<NumberSpan>, later: Option<NumberSpan>) -> Option<NumberSpan>
     ensures first { earlier ≡ None → result ≡ later }
     ensures second { later ≡ None → result ≡ earlier }
     ensures both { (numbers others : List ℤ) → earlier ≡ span_of numbers → later ≡ span_of others

@@ -1,12 +1,12 @@
 ghost use Rattle.std.specs.Prelude.{◌≡◌, ◌<◌, ℕ, ℤ, pos, List, [], ◌∷◌, ◌++◌, Option, Some, None, get_or, if◌then◌else◌, option_to_list};
 ghost use Rattle.wc_view_columns.specs.Held.{Held, IsStateOf, held_at, span_of};
-ghost use Rattle.wc_view_columns.specs.declared.span.Span.{Span};
+ghost use Rattle.wc_view_columns.specs.declared.span.NumberSpan.{NumberSpan};
 ghost use Rattle.wc_indicator.specs.Kept.{RepresentsHistory, Reports};
 ghost use Rattle.wc_model.specs.Instrument.Indication as indication;
 ghost use Rattle.wc_model.specs.Definitions.{PlateData, History};
 
 use crate::bits::Bits;
-use crate::span::{Span, join};
+use crate::span::{NumberSpan, join};
 use wc_indicator::Indicator;
 use wc_model::Outputs;
 
@@ -14,9 +14,9 @@ use wc_model::Outputs;
 #[derive(Clone, Copy, PartialEq, Eq)]
 pub struct State {
     /// The gross weight, if it was valid.
-    pub gross: Option<Span>,
+    pub gross: Option<NumberSpan>,
     /// The net weight, if it was valid and a tare was active.
-    pub net: Option<Span>,
+    pub net: Option<NumberSpan>,
     /// The scale was not stable.
     pub motion: bool,
     pub over: bool,
@@ -25,21 +25,21 @@ pub struct State {
     pub invalid: bool,
     pub inputs: Bits,
     pub outputs: Bits,
-    pub words: [Span; 4],
+    pub words: [NumberSpan; 4],
     /// The numbers of the variables that are drawn: none of one that no program has, or is not there.
-    pub variables: [Option<Span>; 4],
+    pub variables: [Option<NumberSpan>; 4],
 }
 
 /// The span of one word.
-fn word_span(word: i32) -> Span
+fn word_span(word: i32) -> NumberSpan
     ensures { Some result ≡ span_of (word ∷ []) }
 {
-    Span::at(i64::from(word))
+    NumberSpan::at(i64::from(word))
 }
 
 /// The spans of four words.
-fn words_of(outputs: &Outputs) -> [Span; 4]
-    ensures { (other : Span) (i : ℕ) → i < 4
+fn words_of(outputs: &Outputs) -> [NumberSpan; 4]
+    ensures { (other : NumberSpan) (i : ℕ) → i < 4
         → Some (get_or result i other) ≡ span_of (get_or outputs.now.words i (pos 0) ∷ []) }
 {
     let words = &outputs.words;
@@ -52,21 +52,24 @@ fn words_of(outputs: &Outputs) -> [Span; 4]
 }
 
 /// The spans of the numbers of four variables.
-fn variables_of(numbers: [Option<i64>; 4]) -> [Option<Span>; 4]
+fn variables_of(numbers: [Option<i64>; 4]) -> [Option<NumberSpan>; 4]
     ensures { (i : ℕ) → i < 4
         → get_or result i None ≡ span_of (option_to_list (get_or numbers i None)) }
 {
     let [first, second, third, fourth] = numbers;
     [
-        Span::of(first),
-        Span::of(second),
-        Span::of(third),
-        Span::of(fourth),
+        NumberSpan::of(first),
+        NumberSpan::of(second),
+        NumberSpan::of(third),
+        NumberSpan::of(fourth),
     ]
 }
 
 /// The spans of the numbers of some variables and then of others.
-fn merge_variables(earlier: [Option<Span>; 4], later: [Option<Span>; 4]) -> [Option<Span>; 4]
+fn merge_variables(
+    earlier: [Option<NumberSpan>; 4],
+    later: [Option<NumberSpan>; 4],
+) -> [Option<NumberSpan>; 4]
     ensures { (numbers others : ℕ → List ℤ)
         → ((i : ℕ) → i < 4 → get_or earlier i None ≡ span_of (numbers i))
         → ((i : ℕ) → i < 4 → get_or later i None ≡ span_of (others i))
@@ -88,11 +91,11 @@ fn wide_weight(weight: Option<i32>) -> Option<i64>
 }
 
 /// The spans of some words and then of others.
-fn merge_words(earlier: [Span; 4], later: [Span; 4]) -> [Span; 4]
+fn merge_words(earlier: [NumberSpan; 4], later: [NumberSpan; 4]) -> [NumberSpan; 4]
     ensures { (words others : ℕ → List ℤ)
-        → ((other : Span) (i : ℕ) → i < 4 → Some (get_or earlier i other) ≡ span_of (words i))
-        → ((other : Span) (i : ℕ) → i < 4 → Some (get_or later i other) ≡ span_of (others i))
-        → (other : Span) (i : ℕ) → i < 4
+        → ((other : NumberSpan) (i : ℕ) → i < 4 → Some (get_or earlier i other) ≡ span_of (words i))
+        → ((other : NumberSpan) (i : ℕ) → i < 4 → Some (get_or later i other) ≡ span_of (others i))
+        → (other : NumberSpan) (i : ℕ) → i < 4
         → Some (get_or result i other) ≡ span_of (words i ++ others i) }
 {
     [
@@ -131,8 +134,8 @@ impl State {
             → IsStateOf (held_at p history inputs outputs.now numbers ∷ []) result }
     {
         State {
-            gross: Span::of(wide_weight(indicator.gross())),
-            net: Span::of(wide_weight(net_of(indicator))),
+            gross: NumberSpan::of(wide_weight(indicator.gross())),
+            net: NumberSpan::of(wide_weight(net_of(indicator))),
             motion: !indicator.stable(),
             over: indicator.over(),
             under: indicator.under(),

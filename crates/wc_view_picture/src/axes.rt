@@ -1,7 +1,7 @@
 use crate::sheet::{Moment, Sheet, Tenths, put};
 use crate::view::{LEFT, RIGHT, Range, TOP, View};
 use std::fmt::Write;
-use wc_view_columns::{Column, Span};
+use wc_view_columns::{Column, NumberSpan};
 
 /// The least of 1, 2, 5, 10, 20 and so on of which at most n make up a range.
 fn round_step(range: u64, most: u64) -> u64 {
@@ -111,7 +111,7 @@ pub(crate) enum Curve {
 
 impl Curve {
     /// What it has of a column.
-    pub(crate) fn span(self, column: &Column) -> Option<Span> {
+    pub(crate) fn span(self, column: &Column) -> Option<NumberSpan> {
         match self {
             Curve::Gross => column.state.gross,
             Curve::Net => column.state.net,
@@ -122,7 +122,7 @@ impl Curve {
 }
 
 /// Puts a stroke up or down over all that a column has reached, to where it ends.
-fn put_span(out: &mut Sheet, range: &Range, span: Span) {
+fn put_span(out: &mut Sheet, range: &Range, span: NumberSpan) {
     if span.least < span.last {
         put!(out, "V{}", range.y(span.least));
     }
@@ -133,7 +133,13 @@ fn put_span(out: &mut Sheet, range: &Range, span: Span) {
 }
 
 /// Goes on with a curve at a column, after what it had of the column before.
-fn put_step(out: &mut Sheet, range: &Range, x: Tenths, before: Option<Span>, span: Option<Span>) {
+fn put_step(
+    out: &mut Sheet,
+    range: &Range,
+    x: Tenths,
+    before: Option<NumberSpan>,
+    span: Option<NumberSpan>,
+) {
     match (before, span) {
         (Some(before), Some(span)) if span.varies() || span.last != before.last => {
             put!(out, "H{x}");

@@ -1,10 +1,10 @@
 use crate::sheet::{Sheet, Tenths, exactly, put};
 use crate::view::{TOP, View};
 use std::fmt::Write;
-use wc_view_columns::{Span, State};
+use wc_view_columns::{NumberSpan, State};
 
 /// Puts a weight, or from which to which, with a name before it.
-fn put_weight(out: &mut Sheet, view: &View<'_>, name: &str, span: Option<Span>) {
+fn put_weight(out: &mut Sheet, view: &View<'_>, name: &str, span: Option<NumberSpan>) {
     let Some(span) = span else {
         return;
     };

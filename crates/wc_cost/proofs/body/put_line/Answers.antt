@@ -19,7 +19,7 @@ returns-in-Some-label c = elim c.match-line.branch [
       let line = instr_line w.in-Some.instr label in
       let seen = view_instr c.args.line.now w.in-Some.instr rest w.in-Some.is in
       let here = lowerable_put scope line rest (subst (IsLowerable scope) seen may) in
-      let far = w.instr_ahead-skip.ensures rest scope label (subst (HoldsLabels c.args.labels.now rest) (sym w.len.ensures) kept.1) here.0 in
+      let far = w.label_skip-skip.ensures rest scope label (subst (HoldsLabels c.args.labels.now rest) (sym w.len.ensures) kept.1) here.0 in
       let keeps_own = subst (λ l. KeepsLabel l (length c.match-line.flat.code) c.args.labels.now c.set.new.self) (sym (label_instr w.in-Some.instr label)) (subst (λ n. KeepsLabel label n c.args.labels.now c.set.new.self) c.len-in-Some-label.ensures keeps) in
       subst (λ ls. IsKeptFlat scope ls c.set.new.self c.match-line.flat) (sym seen)
       (line_kept scope rest line c.args.labels.now c.set.new.self c.args.flat.now c.match-line.flat (subst (AddsLine scope rest line c.args.flat.now) (sym w.flat-is) (w.in_ok-put_instr.ensures scope rest label is far)) keeps_own kept))
@@ -41,7 +41,7 @@ returns-in-None c = elim c.match-line.branch [
       let line = instr_line w.in-Some.instr label in
       let seen = view_instr c.args.line.now w.in-Some.instr rest w.in-Some.is in
       let here = lowerable_put scope line rest (subst (IsLowerable scope) seen may) in
-      let far = w.instr_ahead-skip.ensures rest scope label (subst (HoldsLabels c.args.labels.now rest) (sym w.len.ensures) kept.1) here.0 in
+      let far = w.label_skip-skip.ensures rest scope label (subst (HoldsLabels c.args.labels.now rest) (sym w.len.ensures) kept.1) here.0 in
       let keeps_own = subst (λ l. KeepsLabel l (length c.match-line.flat.code) c.args.labels.now c.args.labels.now) (sym (label_instr w.in-Some.instr label)) (subst (λ (o : Option Word). KeepsLabel (option_map word_view o) (length c.match-line.flat.code) c.args.labels.now c.args.labels.now) (sym c.in-None.is) refl) in
       subst (λ ls. IsKeptFlat scope ls c.args.labels.now c.match-line.flat) (sym seen)
       (line_kept scope rest line c.args.labels.now c.args.labels.now c.args.flat.now c.match-line.flat (subst (AddsLine scope rest line c.args.flat.now) (sym w.flat-is) (w.in_ok-put_instr.ensures scope rest label is far)) keeps_own kept))

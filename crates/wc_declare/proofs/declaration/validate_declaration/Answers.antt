@@ -60,7 +60,7 @@ pub returns-clause-held : goal.returns-clause-held
 returns-clause-held c = on_ok c.declare_variables.result c.declare_variables.ensures.held (λ holds text before first vs units h.
     let name = name_view c.args.declaration.now.type_name in
     let typed = c.in_ok-declared.ensures.declared text before units in
-    holds before first vs typed (sym (c.width.ensures text before name units typed)) c.in_ok-declared.ensures.represents (record { rows = h.rows; size = h.size; fields = h.fields }))
+    holds before first vs typed (sym (c.width.ensures text before name units typed)) c.in_ok-declared.ensures.allowed (record { rows = h.rows; size = h.size; fields = h.fields }))
 
 pub returns-clause-spelled : goal.returns-clause-spelled
 returns-clause-spelled c = on_ok c.declare_variables.result c.declare_variables.ensures.spelled (λ holds.

@@ -30,5 +30,5 @@ returns-else-is_allowed_in-clause-validated c = λ text before rest h.
     passed 308 d.type_name.line _ (asks 302 d.type_name.line (is_usable_type before d.section name) ∷ rest) (sym (c.is_closed_before.ensures text before h) ∙ c.if-not-is_closed_before.false)
     ∙ broken 302 d.type_name.line (is_usable_type before d.section name) rest (usable_type before d.section name c.in-Some.declared (sym (c.type_at.ensures.declared text before h) ∙ c.in-Some.is) ∙ sym c.is_allowed_in.ensures ∙ c.if-is_allowed_in.false))
 
-pub returns-then-is_allowed_in-clause-represents : goal.returns-then-is_allowed_in-clause-represents
-returns-then-is_allowed_in-clause-represents c = sym c.is_allowed_in.ensures ∙ c.if-is_allowed_in.true
+pub returns-then-is_allowed_in-clause-allowed : goal.returns-then-is_allowed_in-clause-allowed
+returns-then-is_allowed_in-clause-allowed c = sym c.is_allowed_in.ensures ∙ c.if-is_allowed_in.true

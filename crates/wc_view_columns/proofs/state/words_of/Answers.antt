@@ -2,9 +2,9 @@ use Rattle.wc_model.proofs.Common.{◌≡◌, ◌∙◌, [], ◌∷◌, Some, ap
 use Rattle.std.specs.Prelude.{FitsSigned}
 use Rattle.wc_view_columns.proofs.state.words_of.Goals as goal
 use Rattle.wc_view_columns.specs.Held.{span_of}
-use Rattle.wc_view_columns.specs.declared.span.Span.{Span}
+use Rattle.wc_view_columns.specs.declared.span.NumberSpan.{NumberSpan}
 
-raw : (span : Span) (word : ℤ) → FitsSigned w32 word → Some span ≡ span_of (to_z w32 (of_z w32 word) ∷ []) → Some span ≡ span_of (word ∷ [])
+raw : (span : NumberSpan) (word : ℤ) → FitsSigned w32 word → Some span ≡ span_of (to_z w32 (of_z w32 word) ∷ []) → Some span ≡ span_of (word ∷ [])
 raw span word fits is = is ∙ ap (λ w. span_of (w ∷ [])) (to_z-of_z w32 word fits)
 
 pub returns : goal.returns

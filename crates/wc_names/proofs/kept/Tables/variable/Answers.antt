@@ -26,8 +26,8 @@ returns-clause-declared c = λ text scope are is.
     let f = from_row c.deref.result.now scope.before scope.unit h name [] c.in_ok-row.row (sym (c.row.ensures h.table there (named_rows c.deref.result.now scope.before scope.unit h)) ∙ c.in_ok-row.was) in
     sym (ap (option_and_then (numbered_type scope.before)) (type_at_found scope name f.v f.named) ∙ f.declared)
 
-pub returns-clause-represents : goal.returns-clause-represents
-returns-clause-represents c = λ text scope type are is typed names.
+pub returns-clause-starts : goal.returns-clause-starts
+returns-clause-starts c = λ text scope type are is typed names.
     let r = at_unit text [] c.args.self.now.units.items c.args.unit scope are is in
     let h = subst (λ ts. Represents ts scope.before scope.unit) (sym c.deref.ensures.value) r.0 in
     let name = name_of c.args.name.now in

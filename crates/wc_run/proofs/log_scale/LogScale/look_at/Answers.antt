@@ -3,8 +3,8 @@ use Rattle.wc_run.specs.Scanning.{Sees}
 use Rattle.wc_run.proofs.ScaleRows.{gives_items, gives_no_items, gives_no_scan, gives_scan, passes_scan, takes_scan}
 use Rattle.wc_run.proofs.log_scale.LogScale.look_at.Goals as goal
 
-pub returns-in_ok-lines-in-Some-clause-represents : goal.returns-in_ok-lines-in-Some-clause-represents
-returns-in_ok-lines-in-Some-clause-represents g c =
+pub returns-in_ok-lines-in-Some-clause-takes : goal.returns-in_ok-lines-in-Some-clause-takes
+returns-in_ok-lines-in-Some-clause-takes g c =
     takes_scan c.args.self.now c.trace.new.self c.args.ms c.in-Some.record (sym c.in-Some.ensures.there) c.in-Some.ensures.scans
 
 pub returns-in_ok-lines-in-Some-clause-lines : goal.returns-in_ok-lines-in-Some-clause-lines
@@ -17,12 +17,12 @@ returns-in_ok-lines-in-Some-clause-items g c =
     gives_items c.args.self.now c.args.ms c.in-Some.record c.in_ok-lines-in-Some.lines (sym c.in-Some.ensures.there)
     (subst (λ lines. Sees c.args.self.now.opened c.args.ms lines) c.in_ok-lines-in-Some.was c.in-Some.ensures.seen)
 
-pub returns-in_err-lines-in-Some-clause-represents : goal.returns-in_err-lines-in-Some-clause-represents
-returns-in_err-lines-in-Some-clause-represents g c =
+pub returns-in_err-lines-in-Some-clause-takes : goal.returns-in_err-lines-in-Some-clause-takes
+returns-in_err-lines-in-Some-clause-takes g c =
     takes_scan c.args.self.now c.trace.new.self c.args.ms c.in-Some.record (sym c.in-Some.ensures.there) c.in-Some.ensures.scans
 
-pub returns-in-None-clause-represents : goal.returns-in-None-clause-represents
-returns-in-None-clause-represents g c =
+pub returns-in-None-clause-takes : goal.returns-in-None-clause-takes
+returns-in-None-clause-takes g c =
     passes_scan c.args.self.now c.trace.new.self c.args.ms (sym c.in-None.ensures.there) c.in-None.ensures.none
 
 pub returns-in-None-clause-lines : goal.returns-in-None-clause-lines

@@ -12,27 +12,27 @@ returns-in-Counts-clause-represents g c =
     let range : IsDataInRange (Counts c.in-Counts.counts) = subst IsDataInRange (ap (head_data_view c.args.bytes.now) c.in-Counts.is) c.requires.in_range in
     let raw : to_z w32 (of_z w32 c.in-Counts.counts) ≡ c.in-Counts.counts = omega (arith, ints, range.0, range.1) in
     takes_row c.args.self.now c.take_sample.new.self c.args.bytes.now c.args.row (Counts c.in-Counts.counts) (ap (head_data_view c.args.bytes.now) c.in-Counts.is)
-    (subst (λ counts. TakesRow c.args.self.now c.take_sample.new.self c.args.row.ms (Counts counts)) raw (c.take_sample.ensures.represents c.args.row.ms))
+    (subst (λ counts. TakesRow c.args.self.now c.take_sample.new.self c.args.row.ms (Counts counts)) raw (c.take_sample.ensures.takes c.args.row.ms))
 
 pub returns-in_ok-take_bytes-in-Bytes-clause-represents : goal.returns-in_ok-take_bytes-in-Bytes-clause-represents
 returns-in_ok-take_bytes-in-Bytes-clause-represents g c =
     takes_row c.args.self.now c.take_bytes.new.self c.args.bytes.now c.args.row (Bytes c.args.bytes.now) (ap (head_data_view c.args.bytes.now) c.in-Bytes.is)
-    (c.in_ok-take_bytes-in-Bytes.ensures.represents c.args.row.ms)
+    (c.in_ok-take_bytes-in-Bytes.ensures.takes c.args.row.ms)
 
 pub returns-in-Inputs-clause-represents : goal.returns-in-Inputs-clause-represents
 returns-in-Inputs-clause-represents g c =
     takes_row c.args.self.now c.take_inputs.new.self c.args.bytes.now c.args.row (Inputs c.in-Inputs.inputs) (ap (head_data_view c.args.bytes.now) c.in-Inputs.is)
-    (c.take_inputs.ensures.represents c.args.row.ms)
+    (c.take_inputs.ensures.takes c.args.row.ms)
 
 pub returns-in-Scan-clause-represents : goal.returns-in-Scan-clause-represents
 returns-in-Scan-clause-represents g c =
     on_ok _ c.take_scan.result
-    (takes_row c.args.self.now c.take_scan.new.self c.args.bytes.now c.args.row Scan (ap (head_data_view c.args.bytes.now) c.in-Scan.is) c.take_scan.ensures.represents)
+    (takes_row c.args.self.now c.take_scan.new.self c.args.bytes.now c.args.row Scan (ap (head_data_view c.args.bytes.now) c.in-Scan.is) c.take_scan.ensures.takes)
 
 pub returns-in_ok-take_change-in-Change-clause-represents : goal.returns-in_ok-take_change-in-Change-clause-represents
 returns-in_ok-take_change-in-Change-clause-represents g c =
     takes_row c.args.self.now c.take_change.new.self c.args.bytes.now c.args.row Change (ap (head_data_view c.args.bytes.now) c.in-Change.is)
-    (c.in_ok-take_change-in-Change.ensures.represents c.args.row.ms)
+    (c.in_ok-take_change-in-Change.ensures.takes c.args.row.ms)
 
 pub returns-in-Scan-clause-items : goal.returns-in-Scan-clause-items
 returns-in-Scan-clause-items g c =

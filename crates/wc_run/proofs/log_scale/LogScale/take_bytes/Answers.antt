@@ -1,8 +1,8 @@
 use Rattle.wc_run.proofs.ScaleRows.{gives_answer, takes_bytes}
 use Rattle.wc_run.proofs.log_scale.LogScale.take_bytes.Goals as goal
 
-pub returns-in-Ok-clause-represents : goal.returns-in-Ok-clause-represents
-returns-in-Ok-clause-represents g c = takes_bytes c.args.self.now c.feed.new.self c.args.bytes.now c.in-Ok.ensures.represents
+pub returns-in-Ok-clause-takes : goal.returns-in-Ok-clause-takes
+returns-in-Ok-clause-takes g c = takes_bytes c.args.self.now c.feed.new.self c.args.bytes.now c.in-Ok.ensures.goes
 
 pub returns-in-Ok-clause-lines : goal.returns-in-Ok-clause-lines
 returns-in-Ok-clause-lines g c =

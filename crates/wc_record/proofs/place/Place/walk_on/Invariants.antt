@@ -1,5 +1,0 @@
-use Rattle.wc_record.specs.Cutting.{Passes}
-use Rattle.wc_record.proofs.place.Place.walk_on.Given as goal
-
-abbrev pub invariant-loop-index : goal.invariant-loop-index
-invariant-loop-index l = Passes l.fn.self l.bytes l.index l.self
