@@ -1,5 +1,5 @@
-use Rattle.std.proofs.Common.{◌≡◌, List, ℕ, false, subst, refl}
-use Rattle.std.specs.Prelude.{IfErr, IfSome, Option, Some, Err, is_some, option_map}
+use Rattle.std.proofs.Common.{◌≡◌, List, ℕ, false, subst}
+use Rattle.std.specs.Prelude.{IfErr, IfSome, Option, Some, is_some, option_map}
 use Rattle.wc_controller.proofs.RefusedNames.{alone_read, programs_read}
 use Rattle.wc_controller.proofs.Blaming.{one_input}
 use Rattle.wc_controller.proofs.WrittenRuns.{end_more, run_read, start_alone, start_read, stopped_before, unwritten_still}
