@@ -5,7 +5,7 @@ use std::io::Write;
 use wc_controller::{Ending, Input, RefusedRow};
 use wc_diag_further::{Found, Further, LineFault};
 use wc_diag_messages::{
-    Evidence, JobSection, Refusal, Severity, left_out_message, refusal_message, section_of,
+    Evidence, JobSection, RefusalDetails, Severity, left_out_message, refusal_message, section_of,
     shown_text,
 };
 use wc_view_watch::UnknownName;
@@ -133,10 +133,10 @@ fn refusal_of<'a>(
     row: &'a RefusedRow,
     input: Input,
     fault: LineFault,
-) -> Refusal<'a> {
+) -> RefusalDetails<'a> {
     let path = sources.path(input);
     let (evidence, above) = evidence_of(sources, row, input);
-    Refusal {
+    RefusalDetails {
         number: fault.number,
         place: fault.place,
         part: input,
@@ -150,11 +150,11 @@ fn refusal_of<'a>(
 /// Why an input is refused whose text is changed, where, and what to write instead.
 fn further_message(
     session: Session<'_>,
-    refusal: &Refusal<'_>,
+    refusal: &RefusalDetails<'_>,
     fault: LineFault,
     text: &[u8],
 ) -> Result<Vec<u8>, AllocError> {
-    let further = Refusal {
+    let further = RefusalDetails {
         number: fault.number,
         place: fault.place,
         evidence: Evidence::Text(text),
@@ -169,12 +169,12 @@ const MOST_REFUSALS: usize = 20;
 /// Keeps the place and the message of each further refusal of a text that is refused so, and after them that there are more.
 fn gather_further(
     session: Session<'_>,
-    refusal: &Refusal<'_>,
+    refusal: &RefusalDetails<'_>,
     text: &[u8],
     messages: &mut Vec<(u32, Vec<u8>)>,
 ) -> Result<(), AllocError> {
     let (alloc, format) = (session.rt.alloc(), session.format);
-    let Refusal { number, place, .. } = *refusal;
+    let RefusalDetails { number, place, .. } = *refusal;
     let mut further = Further::new(alloc, text, LineFault { number, place })?;
     for count in 0..=MOST_REFUSALS {
         let Found::Refused(fault) = further.next(alloc)? else {
@@ -193,7 +193,11 @@ fn gather_further(
 
 /// Prints what else is wrong with a text that is refused so: of a program in text order, of a plate in the order of its rules. The error
 /// is out of memory, or standard error fails.
-fn report_further(session: Session<'_>, refusal: &Refusal<'_>, text: &[u8]) -> io::Result<()> {
+fn report_further(
+    session: Session<'_>,
+    refusal: &RefusalDetails<'_>,
+    text: &[u8],
+) -> io::Result<()> {
     let mut messages = Vec::new(session.rt.alloc());
     let gathered = gather_further(session, refusal, text, &mut messages);
     messages.sort_by_key(|message| message.0)?;
@@ -205,7 +209,7 @@ fn report_further(session: Session<'_>, refusal: &Refusal<'_>, text: &[u8]) -> i
 
 /// Prints what else is wrong with a program whose check it ended, or with a plate. The refusal is reported by then: if memory runs out or
 /// standard error fails, less is listed.
-fn list_further(session: Session<'_>, sources: &Sources<'_>, refusal: &Refusal<'_>) {
+fn list_further(session: Session<'_>, sources: &Sources<'_>, refusal: &RefusalDetails<'_>) {
     let is_listed = match sources {
         Sources::Program { next: None, .. } => refusal.number < 500,
         _ => matches!(refusal.number, 502..=508),

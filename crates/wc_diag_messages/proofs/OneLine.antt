@@ -5,7 +5,7 @@ use Rattle.std.specs.Fmt.{digits, digits_onto, digit_glyph}
 use Rattle.wc_diag_spans.specs.declared.diagnostic.Span.{Span}
 use Rattle.wc_job.specs.declared.input.Input.{Input}
 use Rattle.wc_job.specs.declared.input.Input.TheVariants.{Log}
-use Rattle.wc_diag_spans.specs.declared.refusal.Refusal.{Refusal}
+use Rattle.wc_diag_spans.specs.declared.refusal.RefusalDetails.{RefusalDetails}
 use Rattle.wc_diag_messages.specs.{IsKnown, IsPrintable, QuotesAndSays, left_out_text, numbered, quoted_text, helped_text, position_text, short_text, column_text, counted_text, first_column, line_text, place_text, row_text, section_text, KnowsWarning, named_text}
 use Rattle.wc_diag_texts.specs.Plain.{HasNoControls, IsShown, acts, escaped_byte, escaped_text, hex_digit, is_calm, is_control, passes, shown_text, with_spaces, words_after}
 use Rattle.wc_diag_messages.specs.declared.parts.Parts.{Parts}
@@ -154,7 +154,7 @@ short_above name parts is =
     search (joined, bytes_shown, position_above parts is.place, numbered_above, helped)
 
 -- what is known of a refusal or a warning
-pub refusal_prints : (refusal : Refusal) (parts : Parts) → IsKnown refusal parts → IsPrintable parts
+pub refusal_prints : (refusal : RefusalDetails) (parts : Parts) → IsKnown refusal parts → IsPrintable parts
 refusal_prints refusal parts known =
     record {
       within = known.found.within;

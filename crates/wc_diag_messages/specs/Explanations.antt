@@ -4,7 +4,7 @@ use Rattle.std.specs.Prelude.{◌≡◌, ℕ, ◌+◌, ◌-◌, ◌&&◌, min, B
 use Rattle.wc_diag_spans.specs.Finds.{Finds, IsWithin}
 use Rattle.wc_job.specs.declared.input.Input.{Input}
 use Rattle.wc_job.specs.declared.input.Input.TheVariants.{Program, Next}
-use Rattle.wc_diag_spans.specs.declared.refusal.Refusal.{Refusal}
+use Rattle.wc_diag_spans.specs.declared.refusal.RefusalDetails.{RefusalDetails}
 use Rattle.wc_diag_messages.specs.Snippets.{snippet_text}
 use Rattle.wc_diag_messages.specs.Locations.{alongside_text, line_text, margin_text, number_text, place_text}
 use Rattle.wc_diag_texts.specs.Plain.{HasNoControls, IsShown, shown_text}
@@ -23,7 +23,7 @@ abbrev pub line_under : ℕ → ℕ → ℕ
 line_under above line = min (above + line) 4294967295
 
 -- the line in what is named, if this one was found (0: none); else that of a program's refusal
-abbrev pub named_line : Refusal → ℕ → ℕ
+abbrev pub named_line : RefusalDetails → ℕ → ℕ
 named_line refusal found =
     if nat_lt 0 found then line_under refusal.above found
     else if is_program refusal.part && nat_lt 0 refusal.place
@@ -51,7 +51,7 @@ abbrev pub QuotesAndSays : List ℕ → List ℕ → Type 0
 QuotesAndSays subject reported = (said : List ℕ) × IsShown said × (reported ≡ quoted_text subject ++ said)
 
 -- these parts are what is known of the refusal: what is quoted is pinned, the rest is words
-pub record IsKnown (refusal : Refusal) (parts : Parts) : Type 0 where
+pub record IsKnown (refusal : RefusalDetails) (parts : Parts) : Type 0 where
   pub found : Finds refusal parts.diagnostic
   pub says : QuotesAndSays parts.diagnostic.subject.items parts.reported.bytes.items
   pub severity_is : parts.severity ≡ Error

@@ -7,7 +7,7 @@ use Rattle.json.specs.Print.{print}
 use Rattle.json.specs.Token as json_token
 use Rattle.json.specs.Token.{Token}
 use Rattle.wc_diag_spans.specs.declared.diagnostic.Span.{Span}
-use Rattle.wc_diag_spans.specs.declared.refusal.Refusal.{Refusal}
+use Rattle.wc_diag_spans.specs.declared.refusal.RefusalDetails.{RefusalDetails}
 use Rattle.wc_diag_messages.specs.Explanations.{IsKnown, long_text, numbered}
 use Rattle.wc_diag_messages.specs.Locations.{column_text, first_column, line_text}
 use Rattle.wc_diag_texts.specs.Plain.{IsOneLine, acts_nowhere, column_of, is_plain, shown_text, words_after}
@@ -123,7 +123,7 @@ Prints Short name parts bytes = IsShortLine name parts bytes
 Prints Json name parts bytes = IsObjectOf (object_tokens parts) name bytes
 
 -- a refusal in that format
-pub record Reports (format : Format) (refusal : Refusal) (bytes : List ℕ) : Type 0 where
+pub record Reports (format : Format) (refusal : RefusalDetails) (bytes : List ℕ) : Type 0 where
   pub parts : Parts
   pub known : IsKnown refusal parts
   pub printed : Prints format refusal.name.now parts bytes

@@ -11,7 +11,7 @@ use crate::placing::{first_column, margin, write_line, write_place_line};
 use crate::snippets::write_snippet;
 use crate::warned_parts::warning_parts;
 use std::alloc::{AllocError, Global};
-use wc_diag_spans::Refusal;
+use wc_diag_spans::RefusalDetails;
 use wc_diag_texts::{Format, Message};
 use wc_diag_warnings::Warning;
 use wc_lexer::Token;
@@ -124,7 +124,7 @@ fn formatted_message(
 pub fn refusal_message(
     alloc: Global,
     format: Format,
-    refusal: &Refusal<'_>,
+    refusal: &RefusalDetails<'_>,
 ) -> Result<Vec<u8>, AllocError>
     ensures all { IfOk result (λ bytes. Reports format refusal.now bytes.items) }
     ensures plain { IfOk result (λ bytes. IsPlainIn format bytes.items) }

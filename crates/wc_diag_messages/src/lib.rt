@@ -18,5 +18,5 @@ pub use jobs::{JobSection, section_of};
 pub use left_out::left_out_message;
 pub use page::{page as page_of, warning_page};
 pub use parts::Severity;
-pub use wc_diag_spans::{Evidence, Refusal};
+pub use wc_diag_spans::{Evidence, RefusalDetails};
 pub use wc_diag_texts::{Message, shown_text};

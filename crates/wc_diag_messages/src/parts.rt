@@ -5,7 +5,7 @@ ghost use Rattle.wc_diag_messages.specs.Explanations.{IsKnown, QuotesAndSays, le
 use crate::placing::{named_line, place_words};
 use crate::snippets::{WIDEST, bytes_at};
 use std::alloc::{AllocError, Global};
-use wc_diag_spans::{Diagnostic, Refusal, find};
+use wc_diag_spans::{Diagnostic, RefusalDetails, find};
 use wc_diag_texts::{Message, entry_of, shown_text, words_of};
 
 /// Whether something is refused, or accepted and suspicious.
@@ -94,7 +94,7 @@ fn reported_of(alloc: Global, number: u16, diagnostic: &Diagnostic) -> Result<Me
 }
 
 /// What is said of a refusal.
-pub(crate) fn parts_of(alloc: Global, refusal: &Refusal<'_>) -> Result<Parts, AllocError>
+pub(crate) fn parts_of(alloc: Global, refusal: &RefusalDetails<'_>) -> Result<Parts, AllocError>
     ensures { IfOk result (λ parts. IsKnown refusal.now parts) }
 {
     let number = refusal.number;

@@ -5,12 +5,12 @@ ghost use Rattle.wc_diag_messages.specs.Locations.{Writes, alongside_text, count
 
 use crate::parts::Parts;
 use std::alloc::{AllocError, Global};
-use wc_diag_spans::{Diagnostic, Refusal};
+use wc_diag_spans::{Diagnostic, RefusalDetails};
 use wc_diag_texts::{Message, column_of};
 use wc_job::Input;
 
 /// The line in what is named, if this one was found in the text; 0 if it is not known.
-pub(crate) fn named_line(refusal: &Refusal<'_>, found: u32) -> u32
+pub(crate) fn named_line(refusal: &RefusalDetails<'_>, found: u32) -> u32
     ensures { result ≡ named_line refusal.now found }
 {
     if found > 0 {
@@ -112,7 +112,10 @@ fn write_row(message: &mut Message, part: Input, place: u32) -> Result<(), Alloc
 }
 
 /// The place by which the refusal is counted, if it is not the line that is named.
-pub(crate) fn place_words(alloc: Global, refusal: &Refusal<'_>) -> Result<Message, AllocError>
+pub(crate) fn place_words(
+    alloc: Global,
+    refusal: &RefusalDetails<'_>,
+) -> Result<Message, AllocError>
     ensures { IfOk result (λ message. message.bytes.items
         ≡ place_text refusal.now.in_job refusal.now.part refusal.now.place) }
 {

@@ -13,5 +13,5 @@ mod searching;
 
 pub use diagnostic::{Diagnostic, Span};
 pub use lines::{column_at, line_at};
-pub use refusal::{Evidence, Refusal};
+pub use refusal::{Evidence, RefusalDetails};
 pub use searching::find;

@@ -24,7 +24,7 @@ pub enum Evidence<'a> {
 
 /// A refusal, and what is available to explain it.
 #[derive(Clone, Copy)]
-pub struct Refusal<'a> {
+pub struct RefusalDetails<'a> {
     /// The rule's number, by the list of refusals.
     pub number: u16,
     /// The line or the row, counted from 1 in its part; 0 if none is named.

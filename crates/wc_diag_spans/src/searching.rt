@@ -8,7 +8,7 @@ use crate::diagnostic::Diagnostic;
 use crate::lines::line_at;
 use crate::plates::find_plate_fault;
 use crate::programs::find_program_fault;
-use crate::refusal::{Evidence, Refusal};
+use crate::refusal::{Evidence, RefusalDetails};
 use crate::rows::{report_row, shown_row};
 use std::alloc::{AllocError, Global};
 use wc_diag_advice::watched_advice;
@@ -23,7 +23,7 @@ use wc_record::RefusedRow;
 fn find_in(
     alloc: Global,
     diagnostic: &mut Diagnostic,
-    refusal: &Refusal<'_>,
+    refusal: &RefusalDetails<'_>,
     text: &[u8],
 ) -> Result<(), AllocError>
     requires { diagnostic.old.span ≡ None }
@@ -42,7 +42,7 @@ fn find_in(
 }
 
 /// The line that is shown, counted from 1 in the current text, if this one was found; 0: none.
-fn line_of_part(refusal: &Refusal<'_>, found: u32) -> u32
+fn line_of_part(refusal: &RefusalDetails<'_>, found: u32) -> u32
     ensures { result ≡ line_of_part refusal.now.part refusal.now.place found }
 {
     match refusal.part {
@@ -96,7 +96,7 @@ fn keep_line(diagnostic: &mut Diagnostic, text: &[u8], line: u32) -> Result<(), 
 /// What is wrong with the row of a log.
 fn find_row(
     alloc: Global,
-    refusal: &Refusal<'_>,
+    refusal: &RefusalDetails<'_>,
     row: &RefusedRow,
 ) -> Result<Diagnostic, AllocError>
     ensures found { IfOk result (FindsRow refusal.now.number (fields_reported row.now)) }
@@ -111,7 +111,11 @@ fn find_row(
 }
 
 /// What is wrong with the text of a part.
-fn find_text(alloc: Global, refusal: &Refusal<'_>, text: &[u8]) -> Result<Diagnostic, AllocError>
+fn find_text(
+    alloc: Global,
+    refusal: &RefusalDetails<'_>,
+    text: &[u8],
+) -> Result<Diagnostic, AllocError>
     ensures found { IfOk result (FindsIn refusal.now text.now) }
     ensures within { IfOk result (λ diagnostic. IsWithin diagnostic) }
 {
@@ -166,7 +170,7 @@ fn find_name(
 
 /// What exactly is wrong, as far as what is available says it; nothing if nothing is. The offending
 /// slice is in the line that is shown, or at its end. The error is out of memory.
-pub fn find(alloc: Global, refusal: &Refusal<'_>) -> Result<Diagnostic, AllocError>
+pub fn find(alloc: Global, refusal: &RefusalDetails<'_>) -> Result<Diagnostic, AllocError>
     ensures { IfOk result (Finds refusal.now) }
 {
     match refusal.evidence {

@@ -11,8 +11,8 @@ use Rattle.wc_view_columns.specs.Rows.{counted, AreTogether, nothing}
 use Rattle.wc_view_columns.specs.declared.events.Events.{Events}
 use Rattle.wc_view_columns.specs.declared.events.Request.{Request}
 use Rattle.wc_view_decode.specs.AnswerBytes.{answer_bytes, IsFirstAnswer}
-use Rattle.wc_view_decode.specs.declared.answer.Answer.{Answer}
-use Rattle.wc_view_decode.specs.declared.answer.Answer.TheVariants.{Weight, NotUnderstood}
+use Rattle.wc_view_decode.specs.declared.answer.LineAnswer.{LineAnswer}
+use Rattle.wc_view_decode.specs.declared.answer.LineAnswer.TheVariants.{Weight, NotUnderstood}
 
 -- whether a status says that the command of its answer was refused
 abbrev pub is_refused : Status → Bool
@@ -21,7 +21,7 @@ is_refused TareRefused = true
 is_refused status = false
 
 -- whether an answer says so
-abbrev pub is_refusal : Option Answer → Bool
+abbrev pub is_refusal : Option LineAnswer → Bool
 is_refusal None = false
 is_refusal (Some NotUnderstood) = false
 is_refusal (Some (Weight reading)) = is_refused reading.status
@@ -46,7 +46,7 @@ abbrev pub AreCounted : List Request → Events → Type 0
 AreCounted made events = AreTogether (map made_by made) events
 
 -- the bytes after an answer, if one could be read
-abbrev pub after_answer : Option Answer → List ℕ → List ℕ
+abbrev pub after_answer : Option LineAnswer → List ℕ → List ℕ
 after_answer answer bytes = option_map_or (λ read. drop (length (answer_bytes read)) bytes) answer bytes
 
 -- the answers of some requests come first in these bytes, one after the other, and those bytes are left

@@ -7,7 +7,7 @@ ghost use Rattle.wc_view_columns.specs.declared.events.Request.{Request};
 ghost use Rattle.wc_view_decode.specs.AnswerBytes.{IsFirstAnswer};
 
 use wc_sma::{Command, RequestReader, Status};
-use wc_view_decode::{Answer, answer_length, first_answer};
+use wc_view_decode::{LineAnswer, answer_length, first_answer};
 
 /// A request of the line that was answered.
 #[derive(Clone, Copy)]
@@ -16,15 +16,15 @@ pub struct Request {
     pub ms: u64,
     pub command: Command,
     /// Its answer, if one could be read.
-    pub answer: Option<Answer>,
+    pub answer: Option<LineAnswer>,
 }
 
 /// Whether an answer says that its command was refused.
-fn is_refusal(answer: Option<Answer>) -> bool
+fn is_refusal(answer: Option<LineAnswer>) -> bool
     ensures { result ≡ is_refusal answer }
 {
     match answer {
-        Some(Answer::Weight(reading)) => {
+        Some(LineAnswer::Weight(reading)) => {
             matches!(reading.status, Status::ZeroRefused | Status::TareRefused)
         }
         _ => false,
@@ -124,7 +124,7 @@ pub struct Tracker {
 }
 
 /// The answer that comes first from a place on, if one can be read, and the place after it.
-fn answer_at(answers: &[u8], at: usize) -> (Option<Answer>, usize)
+fn answer_at(answers: &[u8], at: usize) -> (Option<LineAnswer>, usize)
     requires within { at ≤ length answers.now }
     ensures answer { IsFirstAnswer result.0 (drop at answers.now) }
     ensures left { drop result.1 answers.now ≡ after_answer result.0 (drop at answers.now) }

@@ -1,7 +1,7 @@
 -- The places of an answer's fields.
 use Rattle.wc_model.proofs.Common.{◌≡◌, ◌+◌, ◌-◌, ◌==◌, ◌&&◌, ℕ, Bool, true, List, [], ◌∷◌, ◌++◌, length, get_or, take, drop, refl, sym, ◌∙◌, ap, subst, arith, and_parts, eqb-true, length-drop, length-take-le, take-append-drop, list_all}
 use Rattle.wc_view_decode.specs.AnswerBytes.{IsAnswer, is_framed, is_weight_byte, reading_bytes}
-use Rattle.wc_view_decode.specs.declared.answer.Answer.TheVariants.{Weight}
+use Rattle.wc_view_decode.specs.declared.answer.LineAnswer.TheVariants.{Weight}
 use Rattle.wc_view_decode.specs.declared.answer.WeightAnswer.{WeightAnswer}
 use Rattle.wc_sma.specs.Letters.{kind_letter, motion_letter, status_letter, unit_letters}
 use Rattle.wc_sma.specs.declared.letters.MassUnit.{MassUnit}

@@ -3,8 +3,8 @@ use Rattle.wc_model.proofs.Common.{◌≡◌, ◌<◌, ◌+◌, ℕ, zero, suc, 
 use Rattle.hex.specs.Hex.{IsBytes}
 use Rattle.wc_view_decode.proofs.Takings.{both}
 use Rattle.wc_view_decode.specs.AnswerBytes.{AreAllAnswers, IsAnswer, answer_bytes, bytes_of_answers, is_weight_byte}
-use Rattle.wc_view_decode.specs.declared.answer.Answer.{Answer}
-use Rattle.wc_view_decode.specs.declared.answer.Answer.TheVariants.{Weight, NotUnderstood}
+use Rattle.wc_view_decode.specs.declared.answer.LineAnswer.{LineAnswer}
+use Rattle.wc_view_decode.specs.declared.answer.LineAnswer.TheVariants.{Weight, NotUnderstood}
 use Rattle.wc_sma.specs.Letters.{kind_letter, motion_letter, status_letter, unit_letters}
 use Rattle.wc_sma.specs.declared.letters.MassUnit.{MassUnit}
 use Rattle.wc_sma.specs.declared.letters.MassUnit.TheVariants.{Gram}
@@ -53,7 +53,7 @@ unit_small Gram = (lit< tt, (lit< tt, (lit< tt, tt)))
 unit_small u = (lit< tt, (lit< tt, (lit< tt, tt)))
 
 -- an answer
-answer_small : (a : Answer) → IsAnswer a → AreSmall (answer_bytes a)
+answer_small : (a : LineAnswer) → IsAnswer a → AreSmall (answer_bytes a)
 answer_small (Weight r) (size, bytes) =
     let weight = both IsSmall r.weight (unit_letters r.unit) (weight_small r.weight bytes) (unit_small r.unit) in
     let text = both IsSmall (r.weight ++ unit_letters r.unit) (13 ∷ []) weight (lit< tt, tt) in
@@ -61,9 +61,9 @@ answer_small (Weight r) (size, bytes) =
 answer_small NotUnderstood ok = (lit< tt, (lit< tt, (lit< tt, tt)))
 
 -- several
-answers_small : (answers : List Answer) → AreAllAnswers answers → AreSmall (bytes_of_answers answers)
+answers_small : (answers : List LineAnswer) → AreAllAnswers answers → AreSmall (bytes_of_answers answers)
 answers_small [] all = tt
 answers_small (a ∷ answers) (ok, all) = both IsSmall (answer_bytes a) (bytes_of_answers answers) (answer_small a ok) (answers_small answers all)
 
-pub answers_are_bytes : (answers : List Answer) → AreAllAnswers answers → IsBytes (bytes_of_answers answers)
+pub answers_are_bytes : (answers : List LineAnswer) → AreAllAnswers answers → IsBytes (bytes_of_answers answers)
 answers_are_bytes answers all = bytes_from_small (bytes_of_answers answers) (answers_small answers all)

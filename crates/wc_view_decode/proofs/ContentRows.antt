@@ -6,7 +6,7 @@ use Rattle.wc_view_decode.proofs.CutLines.{answer_fields}
 use Rattle.wc_view_decode.proofs.Digits.{decimal_is_field, hex_is_field}
 use Rattle.wc_model.specs.Definitions.{hex_of_bytes, AnswerLine, line_text}
 use Rattle.wc_view_decode.specs.{CutsField, AreContentOf, InRange, IsContentOf, LineContent, AnswersContent, RefusalContent, ScanContent, content_text, AreAllAnswers, bytes_of_answers}
-use Rattle.wc_view_decode.specs.declared.answer.Answer.{Answer}
+use Rattle.wc_view_decode.specs.declared.answer.LineAnswer.{LineAnswer}
 
 -- the line is that of this moment and these bytes if it is any
 abbrev pub IsOnlyRow : List ℕ → ℕ → List ℕ → Type 0
@@ -22,8 +22,8 @@ row_cut line f1 r1 f2 r2 f3 r3 ms bytes cut1 cut2 cut3 moment digits m bs below 
     (moment m below p2.0, digits bs are p3.0)
 
 -- whatever else a line that starts with L says, it is the same
-only_content : (line bytes : List ℕ) (ms : ℕ) (answers : List Answer) → slice_index line 0 ≡ 76 → IsOnlyRow line ms bytes
-    → ((others : List Answer) → AreAllAnswers others → bytes ≡ bytes_of_answers others → answers ≡ others)
+only_content : (line bytes : List ℕ) (ms : ℕ) (answers : List LineAnswer) → slice_index line 0 ≡ 76 → IsOnlyRow line ms bytes
+    → ((others : List LineAnswer) → AreAllAnswers others → bytes ≡ bytes_of_answers others → answers ≡ others)
     → (other : LineContent) → InRange other → line ≡ content_text other → AnswersContent ms answers ≡ other
 only_content line bytes ms answers letter row only (AnswersContent m others) (below, all, some) e =
     let same = row m (bytes_of_answers others) below (answers_are_bytes others all) e in
@@ -33,7 +33,7 @@ only_content line bytes ms answers letter row only (RefusalContent number place)
 
 -- a line whose bytes are not answers says none
 none_reported : (line bytes : List ℕ) (ms : ℕ) → slice_index line 0 ≡ 76 → IsOnlyRow line ms bytes
-    → ((others : List Answer) → AreAllAnswers others → 0 < length others → ¬ (bytes ≡ bytes_of_answers others))
+    → ((others : List LineAnswer) → AreAllAnswers others → 0 < length others → ¬ (bytes ≡ bytes_of_answers others))
     → (reported : LineContent) → InRange reported → ¬ (line ≡ content_text reported)
 none_reported line bytes ms letter row never (AnswersContent m others) (below, all, some) e =
     never others all some (row m (bytes_of_answers others) below (answers_are_bytes others all) e).1

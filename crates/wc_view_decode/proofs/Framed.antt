@@ -4,8 +4,8 @@ use Rattle.wc_model.proofs.Common.{take-append_seam, take-append-drop, list_all}
 use Rattle.std.proofs.lemmas.Bool.{true≢false}
 use Rattle.wc_view_decode.proofs.AnswerFields.{fields_of, frame_of, rebuilt, same_reading, unit_length, weight_of_frame}
 use Rattle.wc_view_decode.specs.AnswerBytes.{IsAnswer, answer_bytes, is_framed, is_weight_byte, reading_bytes, IsAnswerOf, IsFirstAnswer}
-use Rattle.wc_view_decode.specs.declared.answer.Answer.{Answer}
-use Rattle.wc_view_decode.specs.declared.answer.Answer.TheVariants.{Weight, NotUnderstood}
+use Rattle.wc_view_decode.specs.declared.answer.LineAnswer.{LineAnswer}
+use Rattle.wc_view_decode.specs.declared.answer.LineAnswer.TheVariants.{Weight, NotUnderstood}
 use Rattle.wc_view_decode.specs.declared.answer.WeightAnswer.{WeightAnswer}
 use Rattle.wc_sma.specs.Letters.{kind_letter, motion_letter, status_letter, unit_letters}
 use Rattle.wc_sma.specs.declared.letters.MassUnit.{MassUnit}
@@ -17,13 +17,13 @@ same_value : {X : Type 0} (x y : X) → Some x ≡ Some y → x ≡ y
 same_value x y e = cc
 
 -- twenty bytes that have not what all answers with a weight have are not one
-pub not_framed : (frame : List ℕ) → length frame ≡ 20 → is_framed frame ≡ false → (answer : Answer) → IsAnswer answer → ¬ (frame ≡ answer_bytes answer)
+pub not_framed : (frame : List ℕ) → length frame ≡ 20 → is_framed frame ≡ false → (answer : LineAnswer) → IsAnswer answer → ¬ (frame ≡ answer_bytes answer)
 not_framed frame size never (Weight x) ok e = true≢false (sym (frame_of frame x ok e) ∙ never)
 not_framed frame size never NotUnderstood ok e = omega (arith, size, ap length e)
 
 -- nor are bytes in which a unit is missing
 pub no_unit : (frame : List ℕ) (unit : Option MassUnit) → length frame ≡ 20 → ((x : MassUnit) → (take 3 (drop 16 frame) ≡ unit_letters x) ↔ (unit ≡ Some x))
-    → ((x : MassUnit) → unit ≡ Some x → ⊥) → (answer : Answer) → IsAnswer answer → ¬ (frame ≡ answer_bytes answer)
+    → ((x : MassUnit) → unit ≡ Some x → ⊥) → (answer : LineAnswer) → IsAnswer answer → ¬ (frame ≡ answer_bytes answer)
 no_unit frame unit size is_unit never (Weight x) ok e = never x.unit ((is_unit x.unit).0 (fields_of frame x ok.0 e).unit)
 no_unit frame unit size is_unit never NotUnderstood ok e = omega (arith, size, ap length e)
 
@@ -54,7 +54,7 @@ module _ (frame : List ℕ) (size : length frame ≡ 20) (status : Option Status
     only,
   )
     where
-      only : (other : Answer) → IsAnswer other → frame ≡ answer_bytes other → Weight r ≡ other
+      only : (other : LineAnswer) → IsAnswer other → frame ≡ answer_bytes other → Weight r ≡ other
       only (Weight x) ok e =
           let found = found_of x ok e in
           ap (λ y. Weight y) (same_reading r x (same_value r.status x.status (sym s ∙ found.0)) (same_value r.kind x.kind (sym k ∙ found.1))
@@ -72,20 +72,20 @@ prefix_of_reading bytes rest x size e =
     ap (take 20) e ∙ subst (λ n. take n (reading_bytes x ++ rest) ≡ reading_bytes x) (reading_length x size) (take-append_seam (reading_bytes x) rest)
 
 -- what comes first is what the first twenty bytes are, if it isn't the short answer
-pub first_of_twenty : (found : Option Answer) (bytes : List ℕ) → ((rest : List ℕ) → ¬ (bytes ≡ 10 ∷ 63 ∷ 13 ∷ rest)) → IsAnswerOf found (take 20 bytes) → IsFirstAnswer found bytes
+pub first_of_twenty : (found : Option LineAnswer) (bytes : List ℕ) → ((rest : List ℕ) → ¬ (bytes ≡ 10 ∷ 63 ∷ 13 ∷ rest)) → IsAnswerOf found (take 20 bytes) → IsFirstAnswer found bytes
 first_of_twenty (Some answer) bytes other (ok, e, only) = (
   ok,
   (drop 20 bytes, sym (take-append-drop 20 bytes) ∙ ap (λ prefix. prefix ++ drop 20 bytes) e),
   only_first answer bytes other only,
 )
   where
-    only_first : (answer : Answer) (bytes : List ℕ) → ((rest : List ℕ) → ¬ (bytes ≡ 10 ∷ 63 ∷ 13 ∷ rest)) → ((one : Answer) → IsAnswer one → take 20 bytes ≡ answer_bytes one → answer ≡ one)
-        → (one : Answer) (rest : List ℕ) → IsAnswer one → bytes ≡ answer_bytes one ++ rest → answer ≡ one
+    only_first : (answer : LineAnswer) (bytes : List ℕ) → ((rest : List ℕ) → ¬ (bytes ≡ 10 ∷ 63 ∷ 13 ∷ rest)) → ((one : LineAnswer) → IsAnswer one → take 20 bytes ≡ answer_bytes one → answer ≡ one)
+        → (one : LineAnswer) (rest : List ℕ) → IsAnswer one → bytes ≡ answer_bytes one ++ rest → answer ≡ one
     only_first answer bytes other only (Weight x) rest ok e = only (Weight x) ok (prefix_of_reading bytes rest x ok.0 e)
     only_first answer bytes other only NotUnderstood rest ok e = absurd (other rest e)
 first_of_twenty None bytes other none = λ answer rest ok e. none_first bytes other none answer rest ok e
   where
-    none_first : (bytes : List ℕ) → ((rest : List ℕ) → ¬ (bytes ≡ 10 ∷ 63 ∷ 13 ∷ rest)) → ((one : Answer) → IsAnswer one → ¬ (take 20 bytes ≡ answer_bytes one))
-        → (one : Answer) (rest : List ℕ) → IsAnswer one → ¬ (bytes ≡ answer_bytes one ++ rest)
+    none_first : (bytes : List ℕ) → ((rest : List ℕ) → ¬ (bytes ≡ 10 ∷ 63 ∷ 13 ∷ rest)) → ((one : LineAnswer) → IsAnswer one → ¬ (take 20 bytes ≡ answer_bytes one))
+        → (one : LineAnswer) (rest : List ℕ) → IsAnswer one → ¬ (bytes ≡ answer_bytes one ++ rest)
     none_first bytes other none (Weight x) rest ok e = none (Weight x) ok (prefix_of_reading bytes rest x ok.0 e)
     none_first bytes other none NotUnderstood rest ok e = other rest e

@@ -4,8 +4,8 @@ use Rattle.wc_model.proofs.Common.{decimal_is_IsNumeral, common_steps, list_all-
 use Rattle.std.specs.Prelude.{replicate, unsigned_abs}
 use Rattle.wc_view_decode.proofs.AnswerFields.{unit_length}
 use Rattle.wc_view_decode.specs.AnswerBytes.{AreAllAnswers, IsAnswer, answer_bytes, bytes_of_answers, is_weight_byte, reading_bytes, AnswersAreRead, AreAnswersTo, IsReadingOf}
-use Rattle.wc_view_decode.specs.declared.answer.Answer.{Answer}
-use Rattle.wc_view_decode.specs.declared.answer.Answer.TheVariants.{Weight, NotUnderstood}
+use Rattle.wc_view_decode.specs.declared.answer.LineAnswer.{LineAnswer}
+use Rattle.wc_view_decode.specs.declared.answer.LineAnswer.TheVariants.{Weight, NotUnderstood}
 use Rattle.wc_view_decode.specs.declared.answer.WeightAnswer.{WeightAnswer}
 use Rattle.wc_laws_instrument.proofs.Answers.{IsShort, length_answer, short_weight}
 use Rattle.wc_model.specs.Instrument.Answers as line_answers
@@ -104,7 +104,7 @@ read_one p history mode asked plate =
 
 -- the answer to a request
 read_request : (p : PlateData) (command : line_answers.Command) (history : History) → IsPlate p
-    → (a : Answer) × IsAnswer a × (line_answers.answer_to p command history ≡ answer_bytes a)
+    → (a : LineAnswer) × IsAnswer a × (line_answers.answer_to p command history ≡ answer_bytes a)
 read_request p line_answers.AskWeight history plate = let o = read_one p history line_answers.Shown line_answers.Plain plate in (Weight o.0, o.1, o.2)
 read_request p line_answers.Zero history plate = let o = read_one p (SetZero ∷ history) line_answers.Shown (line_answers.asked_zero p history) plate in (Weight o.0, o.1, o.2)
 read_request p line_answers.TakeTare history plate = let o = read_one p (SetTare ∷ history) line_answers.Shown (line_answers.asked_tare p history) plate in (Weight o.0, o.1, o.2)
@@ -114,7 +114,7 @@ read_request p line_answers.Unknown history plate = (NotUnderstood, tt, refl)
 
 -- the answers to requests
 read_all : (p : PlateData) (texts : List (List ℕ)) (history : History) → IsPlate p
-    → (answers : List Answer) × AreAllAnswers answers × AreAnswersTo p texts history answers × (line_answers.answers_to p texts history ≡ bytes_of_answers answers)
+    → (answers : List LineAnswer) × AreAllAnswers answers × AreAnswersTo p texts history answers × (line_answers.answers_to p texts history ≡ bytes_of_answers answers)
 read_all p [] history plate = ([], tt, tt, refl)
 read_all p (text ∷ texts) history plate =
     let first = read_request p (line_answers.command_of text) history plate in

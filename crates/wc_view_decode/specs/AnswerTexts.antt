@@ -1,8 +1,8 @@
 -- What people read of an answer. (The words are the profile's own.)
 use Rattle.std.specs.Prelude.{ℕ, ◌==◌, Bool, true, false, List, [], ◌++◌, drop, codes}
 use Rattle.std.specs.List.{prefix_len}
-use Rattle.wc_view_decode.specs.declared.answer.Answer.{Answer}
-use Rattle.wc_view_decode.specs.declared.answer.Answer.TheVariants.{Weight, NotUnderstood}
+use Rattle.wc_view_decode.specs.declared.answer.LineAnswer.{LineAnswer}
+use Rattle.wc_view_decode.specs.declared.answer.LineAnswer.TheVariants.{Weight, NotUnderstood}
 use Rattle.wc_sma.specs.declared.letters.MassUnit.{MassUnit}
 use Rattle.wc_sma.specs.declared.letters.MassUnit.TheVariants.{Gram, Kilogram, Tonne}
 use Rattle.wc_sma.specs.declared.letters.Status.{Status}
@@ -42,7 +42,7 @@ abbrev pub without_spaces : List ℕ → List ℕ
 without_spaces weight = drop (prefix_len (λ byte. byte == 32) weight) weight
 
 -- the words for an answer
-abbrev pub answer_text : Answer → List ℕ
+abbrev pub answer_text : LineAnswer → List ℕ
 answer_text (Weight reading) =
     without_spaces reading.weight ++ codes " " ++ unit_text reading.unit ++ kind_text reading.kind ++ motion_text reading.is_stable
     ++ status_text reading.status

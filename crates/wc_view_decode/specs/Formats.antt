@@ -4,7 +4,7 @@ use Rattle.std.specs.Prelude.{◌≡◌, ℕ, zero, suc, ◌/◌, ◌%◌, ◌^�
 use Rattle.std.specs.Fmt.{signed_decimal}
 use Rattle.wc_view_decode.specs.AnswerTexts.{answer_text}
 use Rattle.wc_view_decode.specs.Lines.{LineContent, AnswersContent, RefusalContent, ScanContent}
-use Rattle.wc_view_decode.specs.declared.answer.Answer.{Answer}
+use Rattle.wc_view_decode.specs.declared.answer.LineAnswer.{LineAnswer}
 use Rattle.wc_view_decode.specs.declared.format.DecodeFormat.{DecodeFormat}
 use Rattle.wc_view_decode.specs.declared.format.DecodeFormat.TheVariants.{Text, Table}
 use Rattle.wc_model.specs.Definitions.{hex_of_bytes, refused_text}
@@ -64,12 +64,12 @@ scan_line Table ms steps outputs =
     ++ codes ",\n"
 
 -- the line of an answer
-abbrev pub answer_line : DecodeFormat → ℕ → Answer → List ℕ
+abbrev pub answer_line : DecodeFormat → ℕ → LineAnswer → List ℕ
 answer_line Text ms answer = codes "L " ++ decimal ms ++ codes "  " ++ answer_text answer ++ (10 ∷ [])
 answer_line Table ms answer = decimal ms ++ codes ",L,,,,,,,,,,,,,,,,,,,,,," ++ (34 ∷ []) ++ answer_text answer ++ (34 ∷ 10 ∷ [])
 
 -- a line for each answer to a row
-abbrev pub answer_lines : DecodeFormat → ℕ → List Answer → List ℕ
+abbrev pub answer_lines : DecodeFormat → ℕ → List LineAnswer → List ℕ
 answer_lines format ms answers = flat_map (answer_line format ms) answers
 
 -- what precedes the number of a refusal

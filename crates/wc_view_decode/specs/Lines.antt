@@ -9,7 +9,7 @@ use Rattle.wc_model.specs.Definitions.{refused_text, AnswerLine, ScanLine, line_
 use Rattle.wc_model.specs.declared.fault.Fault.{Fault}
 use Rattle.wc_model.specs.declared.image.Outputs.{Outputs}
 use Rattle.wc_view_decode.specs.AnswerBytes.{AreAllAnswers, bytes_of_answers}
-use Rattle.wc_view_decode.specs.declared.answer.Answer.{Answer}
+use Rattle.wc_view_decode.specs.declared.answer.LineAnswer.{LineAnswer}
 use Rattle.wc_view_decode.specs.declared.answer.ReportEntry.{ReportEntry}
 use Rattle.wc_view_decode.specs.declared.answer.ReportEntry.TheVariants.{Scan, Answers, Refusal}
 use Rattle.wc_view_decode.specs.declared.answer.RefusalRow.{RefusalRow}
@@ -33,7 +33,7 @@ words_text (z ∷ next ∷ words) = signed_decimal z ++ 32 ∷ words_text (next 
 -- what a line says: a scan, the answers to a row, or the refusal at the report's end
 pub data LineContent : Type 0 where
   ScanContent : (ms steps : ℕ) (outputs : Outputs) → LineContent
-  AnswersContent : (ms : ℕ) (answers : List Answer) → LineContent
+  AnswersContent : (ms : ℕ) (answers : List LineAnswer) → LineContent
   RefusalContent : (number place : ℕ) → LineContent
 
 -- what a row of the code says: a scan
@@ -81,7 +81,7 @@ IsEntryOf result line = IfOk result (λ found. IsContentOf (option_map entry_con
 -- so of the answers of a row alone
 abbrev pub AreContentOf : ℕ → Option LineContent → List ℕ → Type 0
 AreContentOf ms (Some reported) bytes =
-    (answers : List Answer) × (reported ≡ AnswersContent ms answers) × AreAllAnswers answers × (0 < length answers)
+    (answers : List LineAnswer) × (reported ≡ AnswersContent ms answers) × AreAllAnswers answers × (0 < length answers)
     × (bytes ≡ bytes_of_answers answers)
-    × ((others : List Answer) → AreAllAnswers others → bytes ≡ bytes_of_answers others → answers ≡ others)
-AreContentOf ms None bytes = (answers : List Answer) → AreAllAnswers answers → 0 < length answers → ¬ (bytes ≡ bytes_of_answers answers)
+    × ((others : List LineAnswer) → AreAllAnswers others → bytes ≡ bytes_of_answers others → answers ≡ others)
+AreContentOf ms None bytes = (answers : List LineAnswer) → AreAllAnswers answers → 0 < length answers → ¬ (bytes ≡ bytes_of_answers answers)

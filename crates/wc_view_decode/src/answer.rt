@@ -14,7 +14,7 @@ pub struct WeightAnswer {
 
 /// An answer of the line.
 #[derive(Clone, Copy)]
-pub enum Answer {
+pub enum LineAnswer {
     Weight(WeightAnswer),
     /// The request is not one that the line knows.
     NotUnderstood,
@@ -40,6 +40,6 @@ pub(crate) struct RefusalRow {
 pub(crate) enum ReportEntry {
     Scan(ScanRow),
     /// The time in milliseconds, and the answers.
-    Answers(u64, Vec<Answer>),
+    Answers(u64, Vec<LineAnswer>),
     Refusal(RefusalRow),
 }

@@ -1,10 +1,10 @@
 ghost use Rattle.std.specs.Prelude.{◌≡◌, ◌≤◌, ◌==◌, length};
 ghost use Rattle.std.specs.List.{prefix_len};
-ghost use Rattle.wc_view_decode.specs.declared.answer.Answer.TheVariants.{Weight};
+ghost use Rattle.wc_view_decode.specs.declared.answer.LineAnswer.TheVariants.{Weight};
 ghost use Rattle.wc_view_decode.specs.AnswerTexts.{answer_text, kind_text, motion_text, status_text, unit_text};
 ghost use Rattle.wc_view_decode.specs.Formats.{Puts};
 
-use crate::answer::{Answer, WeightAnswer};
+use crate::answer::{LineAnswer, WeightAnswer};
 use wc_model::{Fault, put_bytes};
 use wc_sma::{MassUnit, Status, WeightKind};
 
@@ -74,11 +74,11 @@ fn put_reading(text: &mut Vec<u8>, reading: &WeightAnswer) -> Result<(), Fault>
 }
 
 /// Appends the words for an answer to a text. `Memory` is the only fault.
-pub(crate) fn put_answer(text: &mut Vec<u8>, answer: &Answer) -> Result<(), Fault>
+pub(crate) fn put_answer(text: &mut Vec<u8>, answer: &LineAnswer) -> Result<(), Fault>
     ensures { Puts text.old text.new result (answer_text answer.now) }
 {
     match answer {
-        Answer::Weight(reading) => put_reading(text, reading),
-        Answer::NotUnderstood => put_bytes(text, b"not understood"),
+        LineAnswer::Weight(reading) => put_reading(text, reading),
+        LineAnswer::NotUnderstood => put_bytes(text, b"not understood"),
     }
 }

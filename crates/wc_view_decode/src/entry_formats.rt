@@ -4,7 +4,7 @@ ghost use Rattle.wc_view_decode.specs.declared.format.DecodeFormat.TheVariants.{
 ghost use Rattle.wc_view_decode.specs.Lines.{entry_content};
 ghost use Rattle.wc_view_decode.specs.Formats.{Puts, answer_line, answer_lines, bit_text, bits_text, decoded, is_bit_on, named_words, none_text, refusal_line, refusal_mark, scan_line, scan_prefix, word_names};
 
-use crate::answer::{Answer, RefusalRow, ReportEntry, ScanRow};
+use crate::answer::{LineAnswer, RefusalRow, ReportEntry, ScanRow};
 use crate::answer_texts::put_answer;
 use crate::format::DecodeFormat;
 use wc_model::{Fault, put_bytes};
@@ -107,7 +107,7 @@ fn put_one_answer(
     text: &mut Vec<u8>,
     format: DecodeFormat,
     ms: u64,
-    answer: &Answer,
+    answer: &LineAnswer,
 ) -> Result<(), Fault>
     ensures { Puts text.old text.new result (answer_line format ms answer.now) }
 {
@@ -132,7 +132,7 @@ fn put_answers(
     text: &mut Vec<u8>,
     format: DecodeFormat,
     ms: u64,
-    answers: &[Answer],
+    answers: &[LineAnswer],
 ) -> Result<(), Fault>
     ensures { Puts text.old text.new result (answer_lines format ms answers.now) }
 {

@@ -3,7 +3,7 @@ ghost use Rattle.std.specs.Prelude.{◌≡◌, length, option_map, IfOk, IsOkUnl
 ghost use Rattle.std.specs.List.{list_all};
 ghost use Rattle.wc_view_decode.specs.AnswerBytes.{IsAnswer, answer_bytes, is_framed, is_weight_byte, AreAnswersOf, IsAnswerOf, IsFirstAnswer, AnswersAreRead};
 
-use crate::answer::{Answer, WeightAnswer};
+use crate::answer::{LineAnswer, WeightAnswer};
 use std::alloc::Global;
 use wc_model::Fault;
 use wc_sma::{MassUnit, Status, WeightKind, stable_of_letter};
@@ -37,7 +37,7 @@ fn is_framed(frame: &[u8]) -> bool
 }
 
 /// The answer with a weight that twenty bytes are.
-fn weight_in(frame: &[u8]) -> Option<Answer>
+fn weight_in(frame: &[u8]) -> Option<LineAnswer>
     requires { length frame.now ≡ 20 }
     ensures { IsAnswerOf result frame.now }
 {
@@ -46,7 +46,7 @@ fn weight_in(frame: &[u8]) -> Option<Answer>
     }
     let mut weight = [0; 10];
     weight.copy_from_slice(&frame[6..16]);
-    Some(Answer::Weight(WeightAnswer {
+    Some(LineAnswer::Weight(WeightAnswer {
         status: Status::of_letter(frame[1])?,
         kind: WeightKind::of_letter(frame[3])?,
         is_stable: stable_of_letter(frame[4])?,
@@ -56,11 +56,11 @@ fn weight_in(frame: &[u8]) -> Option<Answer>
 }
 
 /// The answer at the start of these bytes, if there is one.
-pub fn first_answer(bytes: &[u8]) -> Option<Answer>
+pub fn first_answer(bytes: &[u8]) -> Option<LineAnswer>
     ensures { IsFirstAnswer result bytes.now }
 {
     if bytes.starts_with(NOT_UNDERSTOOD) {
-        return Some(Answer::NotUnderstood);
+        return Some(LineAnswer::NotUnderstood);
     }
     if bytes.len() < READING_LENGTH {
         return None;
@@ -69,17 +69,17 @@ pub fn first_answer(bytes: &[u8]) -> Option<Answer>
 }
 
 /// The number of bytes an answer has.
-pub fn answer_length(answer: &Answer) -> usize
+pub fn answer_length(answer: &LineAnswer) -> usize
     ensures { IsAnswer answer.now → result ≡ length (answer_bytes answer.now) }
 {
     match answer {
-        Answer::Weight(_) => READING_LENGTH,
-        Answer::NotUnderstood => NOT_UNDERSTOOD.len(),
+        LineAnswer::Weight(_) => READING_LENGTH,
+        LineAnswer::NotUnderstood => NOT_UNDERSTOOD.len(),
     }
 }
 
 /// The answers that these bytes are, if they are answers.
-pub(crate) fn answers_of(alloc: Global, bytes: &[u8]) -> Result<Option<Vec<Answer>>, Fault>
+pub(crate) fn answers_of(alloc: Global, bytes: &[u8]) -> Result<Option<Vec<LineAnswer>>, Fault>
     ensures answers { IfOk result
         (λ found. AreAnswersOf (option_map (λ answers. answers.items) found) bytes.now) }
     ensures memory { IsOkUnless result Fault.Memory }

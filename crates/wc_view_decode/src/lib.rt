@@ -10,7 +10,7 @@ mod format;
 mod frames;
 mod lines;
 
-pub use answer::{Answer, WeightAnswer};
+pub use answer::{LineAnswer, WeightAnswer};
 pub use answer_texts::{kind_text, motion_text, status_text, unit_text};
 pub use decoding::decode;
 pub use format::{DecodeFault, DecodeFormat};

@@ -4,7 +4,7 @@ use std::fmt::Write;
 use std::str;
 use wc_sma::Status;
 use wc_view_columns::{Events, Request};
-use wc_view_decode::{Answer, kind_text, motion_text, status_text, unit_text};
+use wc_view_decode::{LineAnswer, kind_text, motion_text, status_text, unit_text};
 
 /// Where the letters of marks are, and those of marks that are close to others.
 const LETTERS: Tenths = Tenths(670);
@@ -103,7 +103,7 @@ const LETTER: u64 = 110;
 /// Puts a request with its answer in words, the weight without the blanks before it.
 fn put_answered(out: &mut Sheet, request: &Request) {
     put!(out, "{}", exactly(request.ms));
-    let Some(Answer::Weight(reading)) = &request.answer else {
+    let Some(LineAnswer::Weight(reading)) = &request.answer else {
         put!(out, ": not understood");
         return;
     };
