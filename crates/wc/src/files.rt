@@ -75,7 +75,12 @@ pub(crate) struct RunPaths<'a> {
 impl<'a> RunPaths<'a> {
     /// The paths of a run with no program.
     pub(crate) fn alone(plate: &'a str, log: &'a str) -> RunPaths<'a>
-        ensures { result ≡ record { plate = plate.entry; program = None; next = None; log = log.entry } }
+        ensures { result ≡ record {
+          plate = plate.entry;
+          program = None;
+          next = None;
+          log = log.entry;
+        } }
     {
         RunPaths {
             plate,

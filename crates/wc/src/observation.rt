@@ -30,7 +30,8 @@ fn run_observation<'a>(
     ensures count { IfSome result (λ observed. IsCounted observed) }
     ensures asked { IfSome result (λ observed. (plate program log : Text) (next : Option Text)
         → observed_with observed plate (Some program) next log
-        ≡ Some (run plate program next log last (option_map (λ list. list.now) watch.entry) changes)) }
+        ≡ Some (run plate program next log last
+        (option_map (λ list. list.now) watch.entry) changes)) }
 {
     if last.is_some_and(|number| number < 1 || number > 1000) {
         return None;
@@ -52,7 +53,8 @@ fn run_observation<'a>(
 /// The files of the run that the arguments ask for, and what is to be written of it; nothing if they ask for something else.
 pub(crate) fn observation_of<'a>(wanted: Invocation<'a>) -> Option<(RunPaths<'a>, Observation<'a>)>
     ensures count { IfSome result (λ found. IsCounted found.1) }
-    ensures asked { IfSome result (λ found. observed_of found.0 found.1 ≡ Some (view wanted.entry)) }
+    ensures asked { IfSome result
+        (λ found. observed_of found.0 found.1 ≡ Some (view wanted.entry)) }
 {
     match wanted {
         Invocation::Run {

@@ -99,7 +99,8 @@ pub(crate) fn with_commands<'a>(
     mut line: Command<'a>,
     rows: &[CommandRow<'a>],
 ) -> Result<Command<'a>, AllocError>
-    ensures { (app : App) → Takes app line.entry → IfOk result (Takes (with_commands app rows.now)) }
+    ensures { (app : App) → Takes app line.entry
+        → IfOk result (Takes (with_commands app rows.now)) }
 {
     for row in rows {
         let word = command_of(alloc, row)?;

@@ -86,7 +86,8 @@ fn put_step<'a>(
     action: Option<Action<'a>>,
 ) -> Result<(), AllocError>
     ensures added { OnOk result
-        (Adds events.old.items events.new.items (at line Begins ∷ action_events line action.entry)) }
+        (Adds events.old.items events.new.items
+        (at line Begins ∷ action_events line action.entry)) }
 {
     put(events, line, Action::Begin)?;
     match action {
